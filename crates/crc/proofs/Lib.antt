@@ -1,0 +1,5 @@
+pub mod Table
+pub mod Rows
+pub mod Byte
+pub mod Single
+pub mod Burst

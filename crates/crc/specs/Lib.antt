@@ -1,0 +1,2 @@
+pub mod Serial
+pub mod Laws
