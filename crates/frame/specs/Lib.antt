@@ -1,1 +1,4 @@
 pub mod Refusals
+pub mod Naming
+pub mod Layout
+pub mod Codec
