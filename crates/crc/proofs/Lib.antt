@@ -3,3 +3,4 @@ pub mod Rows
 pub mod Byte
 pub mod Single
 pub mod Burst
+pub mod Flips

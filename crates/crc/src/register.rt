@@ -1,7 +1,7 @@
 // The register of a check, run over bytes by a table.
 ghost use mathlib.Core.Path.{_≡_};
 ghost use Rattle.crc.specs.Serial.{byte-in, through, residue};
-ghost use Rattle.crc.specs.Laws.{Shows-a-bit, Shows-a-byte, Shows-a-burst, Residue-tells, Keeps-its-width};
+ghost use Rattle.crc.specs.Laws.{Shows-a-bit, Shows-a-byte, Shows-a-burst, One-bit-shows, Residue-tells, Keeps-its-width};
 
 use crate::kinds::Check;
 
@@ -31,6 +31,7 @@ pub fn after_bytes<C: Check>(register: u16, bytes: &[u8]) -> u16
 pub fn left_over<C: Check>(register: u16, check: u16) -> u16
     ensures value { λ r. ⌜ r ≡ residue (C·Check .generator) register check ⌝ }
     ensures tells { λ _. ⌜ Residue-tells (C·Check .generator) ⌝ }
+    ensures flip { λ _. ⌜ One-bit-shows (C·Check .generator) ⌝ }
 {
     let low = after_byte::<C>(register, (check % 256) as u8);
     after_byte::<C>(low, (check >> 8) as u8)

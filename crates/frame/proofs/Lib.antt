@@ -1,1 +1,3 @@
 pub mod Roundtrip
+pub mod Transmitted
+pub mod Residues

@@ -15,7 +15,7 @@ use Rattle.frame.specs.declared.kind.Kind.{Kind}
 use Rattle.frame.specs.declared.kind.Kind.the-variants.{Undefined0, Undefined1, Reset, ResetAck, Initialize, InitializeAck, Undefined6, Null, Data, Header, CreditOnly, Undefined11, Undefined12, Undefined13, Undefined14, Admin}
 use Rattle.frame.specs.declared.fields.Fields.{Fields}
 use Rattle.frame.specs.Naming.{type-of, kind-at, channel-number, channel-at}
-use Rattle.frame.specs.Layout.{credit-byte, control-byte, trailer, frame-of, fields-of, data-of, Fits, Bytes, Fields-come-back, Frames-come-back}
+use Rattle.frame.specs.Layout.{credit-byte, control-byte, trailer, frame-of, fields-of, data-of, Fits, Fields-come-back, Frames-come-back, Control-figures}
 
 pub type-back : (n : ℕ) → n < 16 → type-of (kind-at n) ≡ n
 type-back n h = eqb→eq (type-of (kind-at n)) n (at-below (λ n. eqb (type-of (kind-at n)) n) 16 tt n h)
@@ -148,3 +148,13 @@ pub placed : (a z b : List ℕ) → length a ≡ 32 → length z ≡ 8 → putMi
 placed a z b h k =
     let n : drop 8 z ≡ [] = drop-all 8 z (omega arith) in
     ap₂ (λ (p q : List ℕ). p ++ (b ++ q)) (take-at a z 32 h) (ap (drop 8) (drop-at a z 32 h) ∙ n) ∙ ap (λ (q : List ℕ). a ++ q) (append-nil b)
+
+-- a control byte whose parts are known
+control-at : (f : Fields) {k : Kind} {v : Channel} {t e : Bool} → f .kind ≡ k → f .vc ≡ v → f .tail ≡ t → f .error ≡ e → control-byte f ≡ cond e 128 0 + cond t 64 0 + type-of k * 4 + channel-number v
+control-at f k v t e = cc
+
+pub control-figures : Control-figures
+control-figures f content n k = (
+  λ v t e. getD-append-right content (trailer f) 32 39 0 n (omega arith) ∙ control-at f k v t e,
+  λ v t e. getD-append-right content (trailer f) 32 39 0 n (omega arith) ∙ control-at f k v t e,
+)

@@ -1,11 +1,14 @@
 -- Where everything stands in the 40 bytes of a frame.
 use Prim.Native.Nat.{ℕ, _+_, _*_, _/_, _%_, _^_, _<_}
 use mathlib.Core.Path.{_≡_}
-use mathlib.Core.Bool.{Bool, cond}
+use mathlib.Core.Bool.{Bool, true, false, cond}
 use mathlib.Core.List.{List, [], _∷_, _++_}
 use lib.Dec.{eqb}
 use lib.ListN.{length, getD, take}
+use Rattle.crc.specs.Laws.{Bytes}
 use Rattle.frame.specs.declared.fields.Fields.{Fields}
+use Rattle.frame.specs.declared.channel.Channel.the-variants.{Vc0, Vc2}
+use Rattle.frame.specs.declared.kind.Kind.the-variants.{CreditOnly}
 use Rattle.frame.specs.Naming.{type-of, kind-at, channel-number, channel-at}
 
 -- byte 38: CR in bits 7 to 2, VCR in bits 1 and 0
@@ -54,10 +57,6 @@ pub record Fits (f : Fields) : Type 0 where
   pub ecrc : f .ecrc < 2 ^ 16
   pub lcrc : f .lcrc < 2 ^ 16
 
--- every number of a list is a byte
-abbrev pub Bytes : List ℕ → Type 0
-Bytes xs = (k : ℕ) → getD xs k 0 < 256
-
 -- fields give a frame, and that frame gives those fields and the data
 abbrev pub Fields-come-back : Type 0
 Fields-come-back =
@@ -67,3 +66,10 @@ Fields-come-back =
 -- every 40 bytes are the frame of their own fields and data
 abbrev pub Frames-come-back : Type 0
 Frames-come-back = (xs : List ℕ) → length xs ≡ 40 → Bytes xs → frame-of (fields-of xs) (data-of xs) ≡ xs
+
+-- worked figures: channel 2, Credit-only, TAIL and ERROR 0 make byte 39 x'2A'; channel 0 with both 1 makes x'E8'
+abbrev pub Control-figures : Type 0
+Control-figures =
+    (f : Fields) (content : List ℕ) → length content ≡ 32 → f .kind ≡ CreditOnly
+    → (f .vc ≡ Vc2 → f .tail ≡ false → f .error ≡ false → getD (frame-of f content) 39 0 ≡ 0x2A)
+    × (f .vc ≡ Vc0 → f .tail ≡ true → f .error ≡ true → getD (frame-of f content) 39 0 ≡ 0xE8)

@@ -2,7 +2,7 @@
 ghost use mathlib.Core.Path.{_≡_};
 ghost use Prim.Native.Nat.{_<_};
 ghost use lib.ListN.{length};
-ghost use Rattle.frame.specs.Layout.{trailer, Fields-come-back, Frames-come-back};
+ghost use Rattle.frame.specs.Layout.{trailer, Fields-come-back, Frames-come-back, Control-figures};
 ghost use Rattle.frame.specs.Codec.{or-else, from-numbers, parsed, emit-refusal, emitted};
 
 use crate::channel::Channel;
@@ -64,6 +64,7 @@ impl Fields {
         ensures value { λ r. ⌜ r ≡ or-else (emit-refusal (now (self .entry)) (length (now (content .entry))) (length (now (frame .entry)))) tt ⌝ }
         ensures bytes { λ r. ⌜ now (frame .exit) ≡ emitted (emit-refusal (now (self .entry)) (length (now (content .entry))) (length (now (frame .entry)))) (now (self .entry)) (now (content .entry)) (now (frame .entry)) ⌝ }
         ensures back { λ _. ⌜ Fields-come-back ⌝ }
+        ensures figures { λ _. ⌜ Control-figures ⌝ }
     {
         if self.cr > 63 || content.len() != 32 || frame.len() != 40 {
             return Err(Refusal::BadSize);

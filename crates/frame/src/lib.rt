@@ -1,5 +1,6 @@
 // The frame of a micropacket: why a call is refused, TYPE values, fields and bytes, and the two checks.
 mod channel;
+mod checks;
 mod codec;
 mod fields;
 mod kind;
@@ -7,6 +8,10 @@ mod naming;
 mod refusal;
 
 pub use channel::Channel;
+pub use checks::end_check;
+pub use checks::link_check;
+pub use checks::seal;
+pub use checks::syndrome;
 pub use fields::Fields;
 pub use fields::Numbers;
 pub use kind::Kind;

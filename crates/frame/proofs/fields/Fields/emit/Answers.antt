@@ -6,11 +6,11 @@ use lib.ListN.{length, length-drop}
 use borrow.Author.Needs.{needs}
 use Rattle.std.specs.declared.option.Option.the-variants.{None}
 use Rattle.frame.specs.Codec.{emit-refusal, emitted}
-use Rattle.frame.proofs.Roundtrip.{fields-come-back, placed}
+use Rattle.frame.proofs.Roundtrip.{fields-come-back, control-figures, placed}
 use Rattle.frame.proofs.fields.Fields.emit.Needs as need
 
 pub returns-then-self-gt63 : need.returns-then-self-gt63
-returns-then-self-gt63 c = record { value = search needs; bytes = search needs; back = fields-come-back }
+returns-then-self-gt63 c = record { value = search needs; bytes = search needs; back = fields-come-back; figures = control-figures }
 
 pub returns : need.returns
 returns c =
@@ -25,4 +25,5 @@ returns c =
           ∙ ap₂ (λ (p q : List ℕ). p ++ q) (c .copy-from-slice .ensures .after) (c .copy-from-slice-2 .ensures .after ∙ c .trailer .ensures)
           ∙ ap (λ o. emitted o f content frame) (sym passes);
       back = fields-come-back;
+      figures = control-figures;
     }
