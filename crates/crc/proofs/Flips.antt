@@ -48,7 +48,7 @@ module _ (g : ℕ) (term : 2 ^ 15 ≤ g) (fits : g < 2 ^ 16) where
         let c = bitXor (getD xs i 0) (2 ^ (n % 8)) in
         let lt : i < length xs = omega arith in
         let same = left-inj (through g r (flipped xs n)) (through g r xs) check
-            (keeps-its-width g term fits r (flipped xs n) hr) (keeps-its-width g term fits r xs hr) bad good in
+        (keeps-its-width g term fits r (flipped xs n) hr) (keeps-its-width g term fits r xs hr) bad good in
         turned (getD xs i 0) (n % 8) (byte-shows r xs i c hr bytes lt (turned-lt (getD xs i 0) (n % 8) (bytes i) (omega arith)) same),
     λ n h bad.
         let s = through g r xs in

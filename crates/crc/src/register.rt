@@ -2,8 +2,7 @@
 ghost use mathlib.Core.Path.{_≡_};
 ghost use Rattle.crc.specs.Serial.{byte-in, through, residue};
 ghost use Rattle.crc.specs.Laws.{Shows-a-bit, Shows-a-byte, Shows-a-burst, One-bit-shows, Residue-tells, Keeps-its-width};
-
-use crate::kinds::Check;
+use crate::check::Check;
 
 // The register after one byte.
 pub fn after_byte<C: Check>(register: u16, byte: u8) -> u16

@@ -26,9 +26,9 @@ ten r content low high = byte-in 0x8408 (byte-in 0x8408 (through 0x8408 r conten
 pub in-order :
     (xs : List ℕ) → length xs ≡ 40
     → through 0x8408
-      (ten (ten (ten 0xFFFF (take 8 (drop 0 xs)) (getD xs 39 0) (getD xs 38 0)) (take 8 (drop 8 xs)) (getD xs 37 0) (getD xs 36 0))
-      (take 8 (drop 16 xs)) (getD xs 35 0) (getD xs 34 0))
-      (take 8 (drop 24 xs))
+    (ten (ten (ten 0xFFFF (take 8 (drop 0 xs)) (getD xs 39 0) (getD xs 38 0)) (take 8 (drop 8 xs)) (getD xs 37 0) (getD xs 36 0))
+    (take 8 (drop 16 xs)) (getD xs 35 0) (getD xs 34 0))
+    (take 8 (drop 24 xs))
     ≡ link-check xs
 unfolding link-check covered order through
 in-order xs n =

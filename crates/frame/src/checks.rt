@@ -5,16 +5,15 @@ ghost use Rattle.crc.specs.Laws.{One-bit-shows};
 ghost use Rattle.crc.specs.Serial.{through, byte-in};
 ghost use Rattle.frame.specs.Codec.{or-else, frame-refusal};
 ghost use Rattle.frame.specs.Checks.{link-check, syndrome-of, sealed-or, data-refusal, end-check, Good-is-zero, Stomped-is-06A9, Frame-bit-shows, Sealed-is-good};
-
 use crate::refusal::Refusal;
-use crc::after_byte;
-use crc::after_bytes;
-use crc::left_over;
 use crc::Check;
 use crc::EndToEndCheck;
 use crc::EndToEndCheckIs;
 use crc::LinkCheck;
 use crc::LinkCheckIs;
+use crc::after_byte;
+use crc::after_bytes;
+use crc::left_over;
 
 // The link check that a frame should have, whatever it has.
 pub fn link_check(frame: &[u8]) -> Result<u16, Refusal>

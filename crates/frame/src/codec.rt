@@ -4,7 +4,6 @@ ghost use Prim.Native.Nat.{_<_};
 ghost use lib.ListN.{length};
 ghost use Rattle.frame.specs.Layout.{trailer, Fields-come-back, Frames-come-back, Control-figures};
 ghost use Rattle.frame.specs.Codec.{or-else, from-numbers, parsed, emit-refusal, emitted};
-
 use crate::channel::Channel;
 use crate::fields::Fields;
 use crate::fields::Numbers;

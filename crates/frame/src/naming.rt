@@ -3,7 +3,6 @@ ghost use mathlib.Core.Path.{_≡_};
 ghost use Prim.Native.Nat.{_<_};
 ghost use Rattle.frame.specs.Refusals.{number-of, name-of};
 ghost use Rattle.frame.specs.Naming.{type-of, kind-at, kind-or, channel-number, channel-at, channel-or};
-
 use crate::channel::Channel;
 use crate::kind::Kind;
 use crate::refusal::Refusal;
@@ -69,7 +68,11 @@ impl Kind {
     pub fn from_value(value: u64) -> Result<Kind, Refusal>
         ensures { λ r. ⌜ r ≡ kind-or value ⌝ }
     {
-        if value < 16 { Ok(KINDS[value as usize]) } else { Err(Refusal::BadSize) }
+        if value < 16 {
+            Ok(KINDS[value as usize])
+        } else {
+            Err(Refusal::BadSize)
+        }
     }
 
     // The kind that four bits of a byte say.
@@ -94,7 +97,11 @@ impl Channel {
     pub fn from_number(number: u64) -> Result<Channel, Refusal>
         ensures { λ r. ⌜ r ≡ channel-or number ⌝ }
     {
-        if number < 4 { Ok(CHANNELS[number as usize]) } else { Err(Refusal::BadChannel) }
+        if number < 4 {
+            Ok(CHANNELS[number as usize])
+        } else {
+            Err(Refusal::BadChannel)
+        }
     }
 
     // The channel that two bits of a byte say.

@@ -4,4 +4,6 @@ use Rattle.crc.proofs.register.after_byte.Needs as need
 
 pub returns : need.returns
 returns g c =
-    byte-by-row (g .C·Check .generator) (c .args .register) (c .args .byte) (c .row .result) (omega arith) (c .row .ensures)
+    let by-row =
+    byte-by-row (g .C·Check .generator) (c .args .register) (c .args .byte) (c .row .result) (omega arith) (c .row .ensures) in
+    cc

@@ -1,7 +1,5 @@
-use Prim.Native.Nat.{ℕ, _+_}
-use mathlib.Core.Path.{sym, _∙_, ap}
+use mathlib.Core.Path.{sym, _∙_}
 use native.Mathlib.Omega.{arith}
-use lib.ListN.{drop}
 use Rattle.std.proofs.shelf.Lists.{at-drop-more, at-drop-all}
 use Rattle.crc.specs.Serial.{through}
 use Rattle.crc.proofs.Single.{shows-a-bit}
@@ -14,9 +12,10 @@ loop-b-again g c =
     let F = through (g .C·Check .generator) in
     let xs = c .args .bytes .now in
     let i = c .loop-b .b-index in
-    ap (λ (n : ℕ). F n (drop (i + 1) xs)) (c .after-byte-at .ensures)
-    ∙ sym (at-drop-more (F (c .loop-b .at)) xs i 0 (omega arith))
-    ∙ c .loop-b .inv
+    let one = c .after-byte-at .ensures in
+    let more = at-drop-more (F (c .loop-b .at)) xs i 0 (omega arith) in
+    let inv = c .loop-b .inv in
+    cc
 
 pub returns : need.returns
 unfolding through

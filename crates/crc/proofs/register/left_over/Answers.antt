@@ -1,6 +1,3 @@
-use Prim.Native.Nat.{ℕ, _/_}
-use mathlib.Core.Path.{_∙_, ap}
-use Rattle.crc.specs.Serial.{byte-in}
 use Rattle.crc.proofs.Byte.{two-bytes}
 use Rattle.crc.proofs.Burst.{residue-tells}
 use Rattle.crc.proofs.Flips.{one-bit-shows}
@@ -10,8 +7,11 @@ pub returns : need.returns
 returns g c =
     let G = g .C·Check .generator in
     let check = c .args .check in
+    let low = c .after-byte-low .ensures in
+    let high = c .after-byte .ensures in
+    let both = two-bytes G (c .args .register) check in
     record {
-      value = c .after-byte .ensures ∙ ap (λ (low : ℕ). byte-in G low (check / 256)) (c .after-byte-low .ensures) ∙ two-bytes G (c .args .register) check;
+      value = cc;
       flip = one-bit-shows G (g .C·Check·met .term) (g .C·Check·met .fits);
       tells = residue-tells G (g .C·Check·met .term) (g .C·Check·met .fits);
     }

@@ -1,6 +1,6 @@
 use mathlib.Core.Path.{refl}
 use Rattle.crc.proofs.Rows.{rows}
-use Rattle.crc.proofs.kinds.end_rows.Needs as need
+use Rattle.crc.proofs.link.rows.Needs as need
 
 pub returns : need.returns
-returns c = rows 0xD008 _ refl tt
+returns c = rows 0x8408 _ refl tt
