@@ -1,0 +1,4 @@
+// The text of a sheet: its lines, their words, the numbers and bytes that words write, and bytes as text.
+mod sheet_lines;
+
+pub use sheet_lines::lines;
