@@ -1,12 +1,12 @@
 -- The lines of a sheet and the words of a line: the pieces of a text between bytes of a kind.
 use mathlib.Core.Path.{_≡_}
-use mathlib.Core.Bool.{Bool, true, false, cond, _||_}
+use mathlib.Core.Bool.{Bool, true, false, cond, not, _||_}
 use mathlib.Core.List.{List, [], _∷_, _++_}
 use Prim.Native.Nat.{ℕ, _<_}
 use lib.Dec.{eqb}
 use lib.ListN.{length}
 use Rattle.std.specs.Pieces.{rejoined}
-use Rattle.std.specs.shelf.Lists.{All, kept-by}
+use Rattle.std.specs.shelf.Lists.{All, kept-by, joined}
 
 -- a line feed
 abbrev pub ends-line : ℕ → Bool
@@ -42,3 +42,10 @@ pub record Cut-into-lines (sheet : List ℕ) (ls : List (List ℕ)) : Type 0 whe
   pub are : ls ≡ lines-of sheet
   pub whole : rejoined 10 ls ≡ sheet
   pub each : All (Free-of ends-line) ls
+
+-- what a cut into words gives
+pub record Cut-into-words (line : List ℕ) (ws : List (List ℕ)) : Type 0 where
+  pub are : ws ≡ words-of line
+  pub none-empty : All (λ w. some w ≡ true) ws
+  pub each : All (Free-of separates) ws
+  pub whole : joined (λ w. w) ws ≡ kept-by (λ b. not (separates b)) line

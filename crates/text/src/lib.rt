@@ -1,4 +1,6 @@
 // The text of a sheet: its lines, their words, the numbers and bytes that words write, and bytes as text.
+mod line_words;
 mod sheet_lines;
 
+pub use line_words::words;
 pub use sheet_lines::lines;
