@@ -1,6 +1,8 @@
 // The text of a sheet: its lines, their words, the numbers and bytes that words write, and bytes as text.
 mod line_words;
+mod numbers;
 mod sheet_lines;
 
 pub use line_words::words;
+pub use numbers::number;
 pub use sheet_lines::lines;
