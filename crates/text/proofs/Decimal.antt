@@ -2,17 +2,18 @@
 use mathlib.Core.Path.{_≡_, refl, sym, ap, _∙_}
 use mathlib.Core.Bool.{Bool, true, false, cond}
 use mathlib.Core.List.{List, [], _∷_}
-use Prim.Native.Nat.{ℕ, _+_, _-_, _*_, _≤_, _<_}
+use Prim.Native.Nat.{ℕ, _+_, _-_, _*_, _^_, _≤_, _<_}
 use native.Mathlib.Omega.{arith}
-use lib.Dec.{leb}
-use lib.ListN.{length, getD, drop}
+use lib.Dec.{leb, eqb}
+use lib.IntN.{pos, negℤ}
+use lib.ListN.{length, getD, take, drop}
 use Rattle.std.specs.declared.option.Option.{Option}
 use Rattle.std.specs.declared.option.Option.the-variants.{None, Some}
-use Rattle.std.specs.Options.{Cases}
-use Rattle.std.proofs.shelf.Lists.{drop-more, drop-all}
-use Rattle.std.proofs.shelf.Tests.{cond-both, cond-true, cond-false, lt-leb, le-leb}
+use Rattle.std.specs.Options.{Cases, mapped}
+use Rattle.std.proofs.shelf.Lists.{drop-more, drop-all, take-rest}
+use Rattle.std.proofs.shelf.Tests.{cond-both, cond-true, cond-false, lt-leb, le-leb, eq-eqb}
 use Rattle.std.proofs.shelf.Ways.{tells}
-use Rattle.text.specs.Numbers.{is-digit, digit-of, read-on, decimal-value, within, at-most, number-of}
+use Rattle.text.specs.Numbers.{is-digit, digit-of, read-on, decimal-value, within, at-most, number-of, signed-of}
 
 too-large : (limit n : ℕ) (cs : List ℕ) → limit < n → at-most limit (read-on n cs) ≡ None
 too-large limit n [] h = cond-false (leb n limit) _ _ (lt-leb n limit h)
@@ -67,3 +68,7 @@ pub is-number : (limit : ℕ) (word : List ℕ) → (length word ≡ 0 → ⊥) 
 unfolding number-of
 is-number limit [] e = absurd (e refl)
 is-number limit (c ∷ cs) e = refl
+
+pub with-minus : (word : List ℕ) (o : Option ℕ) → getD word 0 0 ≡ 45 → o ≡ number-of (2 ^ 31) (take (length word - 1) (drop 1 word)) → mapped (λ n. negℤ (pos n)) o ≡ signed-of word
+with-minus word o e f =
+    ap (mapped (λ n. negℤ (pos n))) (f ∙ ap (number-of (2 ^ 31)) (take-rest word 1)) ∙ sym (cond-true (eqb (getD word 0 0) 45) _ _ (eq-eqb _ 45 e))

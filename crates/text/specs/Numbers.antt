@@ -2,7 +2,10 @@
 use mathlib.Core.Bool.{Bool, true, false, cond, _&&_}
 use mathlib.Core.List.{List, [], _∷_}
 use Prim.Native.Nat.{ℕ, _+_, _-_, _*_, _^_}
-use lib.Dec.{leb}
+use lib.Dec.{leb, eqb}
+use lib.IntN.{ℤ, pos, negℤ}
+use lib.ListN.{length, getD, drop}
+use Rattle.std.specs.Options.{mapped}
 use Rattle.std.specs.declared.option.Option.{Option}
 use Rattle.std.specs.declared.option.Option.the-variants.{None, Some}
 
@@ -32,3 +35,11 @@ at-most limit (Some n) = within limit n
 -- a word of digits, however many, whose number is at most the limit
 unfoldable pub number-of : ℕ → List ℕ → Option ℕ
 number-of limit word = at-most limit (decimal-value word)
+
+-- a number of at most 2^31 - 1, or a minus sign and one of at most 2^31
+abbrev pub signed-of : List ℕ → Option ℤ
+signed-of word = cond (eqb (getD word 0 0) 45) (mapped (λ n. negℤ (pos n)) (number-of (2 ^ 31) (drop 1 word))) (mapped (λ n. pos n) (number-of (2 ^ 31 - 1) word))
+
+-- just one digit, 0 or 1
+abbrev pub bit-of : List ℕ → Option Bool
+bit-of word = cond (eqb (length word) 1) (cond (eqb (getD word 0 0) 48) (Some false) (cond (eqb (getD word 0 0) 49) (Some true) None)) None

@@ -4,5 +4,8 @@ mod numbers;
 mod sheet_lines;
 
 pub use line_words::words;
+pub use numbers::bit;
+pub use numbers::count;
 pub use numbers::number;
+pub use numbers::signed;
 pub use sheet_lines::lines;
