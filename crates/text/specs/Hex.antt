@@ -3,6 +3,7 @@ use mathlib.Core.Bool.{Bool, true, false, cond, _&&_}
 use mathlib.Core.List.{List, [], _∷_, _++_}
 use Prim.Native.Nat.{ℕ, _+_, _-_, _*_, _/_, _%_}
 use lib.Dec.{leb, ltb, eqb}
+use lib.Chars.{codes}
 use lib.ListN.{length, getD}
 use Rattle.std.specs.declared.option.Option.{Option}
 use Rattle.std.specs.declared.option.Option.the-variants.{None, Some}
@@ -42,11 +43,12 @@ bytes-of word = cond (eqb (length word) 0) None (cond (is-dash word) (Some []) (
 abbrev pub hex4-of : List ℕ → Option ℕ
 hex4-of word = cond (eqb (length word) 4) (both 256 (byte-of (getD word 0 0) (getD word 1 0)) (byte-of (getD word 2 0) (getD word 3 0))) None
 
+-- the digits below 16, in lower and in upper case
 abbrev pub lower : ℕ → ℕ
-lower d = cond (ltb d 10) (48 + d) (87 + d)
+lower d = getD (codes "0123456789abcdef") d 0
 
 abbrev pub upper : ℕ → ℕ
-upper d = cond (ltb d 10) (48 + d) (55 + d)
+upper d = getD (codes "0123456789ABCDEF") d 0
 
 abbrev pub shown-pairs : List ℕ → List ℕ
 shown-pairs [] = []

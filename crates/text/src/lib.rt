@@ -3,6 +3,7 @@ mod hexadecimal;
 mod line_words;
 mod numbers;
 mod sheet_lines;
+pub mod writing;
 
 pub use hexadecimal::bytes;
 pub use hexadecimal::hex4;
