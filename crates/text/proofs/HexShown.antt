@@ -15,7 +15,7 @@ use Rattle.std.proofs.shelf.Tests.{eqb-true, eq-eqb}
 use Rattle.std.proofs.shelf.Ways.{decides-below-and}
 use Rattle.text.specs.Hex.{nibble-of, both, byte-of, in-front, pairs-of, lower, shown-pairs}
 
-shown-append : (xs ys : List ℕ) → shown-pairs (xs ++ ys) ≡ shown-pairs xs ++ shown-pairs ys
+pub shown-append : (xs ys : List ℕ) → shown-pairs (xs ++ ys) ≡ shown-pairs xs ++ shown-pairs ys
 shown-append [] ys = refl
 shown-append (x ∷ xs) ys = ap (λ l. lower (x / 16) ∷ lower (x % 16) ∷ l) (shown-append xs ys)
 

@@ -32,3 +32,20 @@ fn spelled(bytes: &[u8]) -> [u8; 2 * PIECE]
     }
     text
 }
+
+// Writes a piece at a time, so that a writer is called seldom.
+fn put_pairs<W: fmt::Write>(bytes: &[u8], f: &mut fmt::Formatter<W>) -> fmt::Result
+    ensures { λ r. ⌜ Prints took (now (f .entry)) r (shown-pairs (now (bytes .entry))) (now (f .exit)) ⌝ }
+{
+    let mut rest = bytes;
+    while !rest.is_empty() {
+        let (piece, later) = rest.split_at(rest.len().min(PIECE));
+        let text = spelled(piece);
+        match std::str::from_utf8(&text[0..2 * piece.len()]) {
+            Ok(s) => f.write_str(s)?,
+            Err(_) => return Err(fmt::Error),
+        }
+        rest = later;
+    }
+    Ok(())
+}
