@@ -4,8 +4,10 @@ use mathlib.Core.Bool.{Bool, true, false, cond, _&&_}
 use mathlib.Core.List.{List, [], _∷_, _++_, append-assoc}
 use Prim.Native.Nat.{ℕ, zero, suc, _+_, _*_, _/_, _%_, _≤_, _<_}
 use native.Mathlib.Omega.{arith}
+use lib.Chars.{codes}
 use lib.Dec.{eqb}
 use lib.ListN.{length, getD, take, set}
+use Rattle.std.proofs.shelf.Elements.{all-getD}
 use Rattle.std.proofs.shelf.Lists.{take-more, take-more-set, take-all, length-set}
 use Rattle.std.specs.declared.option.Option.{Option}
 use Rattle.std.specs.declared.option.Option.the-variants.{None, Some}
@@ -13,7 +15,7 @@ use Rattle.std.specs.Orderings.{Decides}
 use Rattle.std.specs.shelf.Lists.{All}
 use Rattle.std.proofs.shelf.Tests.{eqb-true, eq-eqb}
 use Rattle.std.proofs.shelf.Ways.{decides-below-and}
-use Rattle.text.specs.Hex.{nibble-of, both, byte-of, in-front, pairs-of, lower, shown-pairs}
+use Rattle.text.specs.Hex.{nibble-of, both, byte-of, in-front, pairs-of, lower, upper, shown-pairs, hex-of}
 
 pub shown-append : (xs ys : List ℕ) → shown-pairs (xs ++ ys) ≡ shown-pairs xs ++ shown-pairs ys
 shown-append [] ys = refl
@@ -62,3 +64,16 @@ pairs-back : (bs : List ℕ) → All (λ b. b < 256) bs → pairs-of (shown-pair
 unfolding pairs-of
 pairs-back [] h = refl
 pairs-back (b ∷ bs) h = λ i. in-front (byte-back b (h .0) i) (pairs-back bs (h .1) i)
+
+pub hex-of-none : (bs : List ℕ) → length bs ≡ 0 → 45 ∷ [] ≡ hex-of bs
+unfolding hex-of
+hex-of-none [] e = refl
+hex-of-none (b ∷ bs) e = absurd (omega arith)
+
+pub hex-of-some : (bs : List ℕ) → (length bs ≡ 0 → ⊥) → shown-pairs bs ≡ hex-of bs
+unfolding hex-of
+hex-of-some [] e = absurd (e refl)
+hex-of-some (b ∷ bs) e = refl
+
+pub upper-ascii : (d : ℕ) → d < 16 → upper d < 128
+upper-ascii d h = all-getD (λ c. c < 128) (codes "0123456789ABCDEF") d 0 h (omega arith)

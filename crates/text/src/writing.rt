@@ -9,7 +9,16 @@ ghost use Rattle.text.specs.Hex.{lower, upper, shown-pairs, hex-of, shown-hex4
 use std::fmt;
 
 // Bytes in pairs of lower-case digits, or a dash where there are none.
+#[derive(Clone, Copy)]
 pub struct Hex<'a>(pub &'a [u8]);
+
+// A number of 16 bits, always in four lower-case digits.
+#[derive(Clone, Copy)]
+pub struct Hex4(pub u16);
+
+// The lowest four bits of a number, as one upper-case digit.
+#[derive(Clone, Copy)]
+pub struct HexDigit(pub u8);
 
 // How many bytes go to a writer in one piece.
 const PIECE: usize = 32;
@@ -48,4 +57,35 @@ fn put_pairs<W: fmt::Write>(bytes: &[u8], f: &mut fmt::Formatter<W>) -> fmt::Res
         rest = later;
     }
     Ok(())
+}
+
+pub impl fmt::Display for Hex<'_> as HexDisplay {
+    ghost shown = { λ h. Some (hex-of (h .0 .now)) };
+
+    fn fmt<W: fmt::Write>(&self, f: &mut fmt::Formatter<W>) -> fmt::Result {
+        let bytes = self.0;
+        if bytes.is_empty() {
+            f.write_str("-")
+        } else {
+            put_pairs(bytes, f)
+        }
+    }
+}
+
+pub impl fmt::Display for Hex4 as Hex4Display {
+    ghost shown = { λ h. Some (shown-hex4 (h .0)) };
+
+    fn fmt<W: fmt::Write>(&self, f: &mut fmt::Formatter<W>) -> fmt::Result {
+        let n = self.0;
+        put_pairs(&[(n / 256) as u8, (n % 256) as u8], f)
+    }
+}
+
+pub impl fmt::Display for HexDigit as HexDigitDisplay {
+    ghost shown = { λ h. Some (upper (h .0 % 16) ∷ []) };
+
+    fn fmt<W: fmt::Write>(&self, f: &mut fmt::Formatter<W>) -> fmt::Result {
+        let d = self.0 % 16;
+        f.write_char(b"0123456789ABCDEF"[d as usize] as char)
+    }
 }
