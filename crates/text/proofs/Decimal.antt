@@ -1,8 +1,9 @@
 -- Reading a number digit by digit. Assumes nothing.
 use mathlib.Core.Path.{_≡_, refl, sym, ap, _∙_}
+use mathlib.Core.Logic.{⊎-elim}
 use mathlib.Core.Bool.{Bool, true, false, cond}
-use mathlib.Core.List.{List, [], _∷_}
-use Prim.Native.Nat.{ℕ, _+_, _-_, _*_, _^_, _≤_, _<_}
+use mathlib.Core.List.{List, [], _∷_, _++_}
+use Prim.Native.Nat.{ℕ, _+_, _-_, _*_, _/_, _%_, _^_, _≤_, _<_}
 use native.Mathlib.Omega.{arith}
 use lib.Dec.{leb, eqb}
 use lib.IntN.{pos, negℤ}
@@ -10,10 +11,12 @@ use lib.ListN.{length, getD, take, drop}
 use Rattle.std.specs.declared.option.Option.{Option}
 use Rattle.std.specs.declared.option.Option.the-variants.{None, Some}
 use Rattle.std.specs.Options.{Cases, mapped}
+use Rattle.std.specs.Written.{decimal}
+use Rattle.std.proofs.shelf.Decimals.{decimal-by-steps, decimal-some}
 use Rattle.std.proofs.shelf.Lists.{drop-more, drop-all, take-rest}
-use Rattle.std.proofs.shelf.Tests.{cond-both, cond-true, cond-false, lt-leb, le-leb, eq-eqb}
+use Rattle.std.proofs.shelf.Tests.{cond-both, cond-true, cond-false, lt-leb, le-leb, eq-eqb, and-from, cases-bool}
 use Rattle.std.proofs.shelf.Ways.{tells}
-use Rattle.text.specs.Numbers.{is-digit, digit-of, read-on, decimal-value, within, at-most, number-of, signed-of}
+use Rattle.text.specs.Numbers.{is-digit, digit-of, read-on, decimal-value, within, at-most, number-of, signed-of, Numbers-come-back}
 
 too-large : (limit n : ℕ) (cs : List ℕ) → limit < n → at-most limit (read-on n cs) ≡ None
 too-large limit n [] h = cond-false (leb n limit) _ _ (lt-leb n limit h)
@@ -72,3 +75,28 @@ is-number limit (c ∷ cs) e = refl
 pub with-minus : (word : List ℕ) (o : Option ℕ) → getD word 0 0 ≡ 45 → o ≡ number-of (2 ^ 31) (take (length word - 1) (drop 1 word)) → mapped (λ n. negℤ (pos n)) o ≡ signed-of word
 with-minus word o e f =
     ap (mapped (λ n. negℤ (pos n))) (f ∙ ap (number-of (2 ^ 31)) (take-rest word 1)) ∙ sym (cond-true (eqb (getD word 0 0) 45) _ _ (eq-eqb _ 45 e))
+
+-- one more digit behind a number that was read
+read-push : (m k : ℕ) (ds : List ℕ) (c : ℕ) → is-digit c ≡ true → read-on m ds ≡ Some k → read-on m (ds ++ c ∷ []) ≡ Some (k * 10 + (c - 48))
+read-push m k [] c t e =
+    let same : m ≡ k = grind arith in
+    cond-true (is-digit c) _ _ t ∙ ap (λ n. Some (n * 10 + (c - 48))) same
+read-push m k (d ∷ ds) c t e =
+    ⊎-elim (λ y. cond-true _ _ _ y ∙ read-push (m * 10 + (d - 48)) k ds c t (sym (cond-true _ _ _ y) ∙ e))
+    (λ n. let no : _≡_ {A = Option ℕ} None (Some k) = sym (cond-false _ _ _ n) ∙ e in grind arith)
+    (cases-bool (is-digit d))
+
+digit-true : (d : ℕ) → d < 10 → is-digit (48 + d) ≡ true
+digit-true d h = and-from _ _ (le-leb 48 (48 + d) (omega arith)) (le-leb (48 + d) 57 (omega arith))
+
+read-decimal : (n : ℕ) → n < 2 ^ 64 → read-on 0 (decimal n) ≡ Some n
+read-decimal =
+    decimal-by-steps (λ n ds. read-on 0 ds ≡ Some n)
+    (λ n h. cond-true _ _ _ (digit-true n h) ∙ ap (λ (k : ℕ). Some k) (omega arith))
+    (λ n ds h e. read-push 0 (n / 10) ds (48 + n % 10) (digit-true (n % 10) (omega arith)) e ∙ ap (λ (k : ℕ). Some k) (omega arith))
+
+pub numbers-back : Numbers-come-back
+numbers-back n h =
+    sym (is-number (2 ^ 64 - 1) (decimal n) (λ e. omega (arith, decimal-some n h)))
+    ∙ ap (at-most (2 ^ 64 - 1)) (read-decimal n h)
+    ∙ cond-true (leb n (2 ^ 64 - 1)) _ _ (le-leb n (2 ^ 64 - 1) (omega arith))

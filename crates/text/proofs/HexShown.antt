@@ -13,9 +13,9 @@ use Rattle.std.specs.declared.option.Option.{Option}
 use Rattle.std.specs.declared.option.Option.the-variants.{None, Some}
 use Rattle.std.specs.Orderings.{Decides}
 use Rattle.std.specs.shelf.Lists.{All}
-use Rattle.std.proofs.shelf.Tests.{eqb-true, eq-eqb}
+use Rattle.std.proofs.shelf.Tests.{eqb-true, eq-eqb, ne-eqb, and-left, cond-false}
 use Rattle.std.proofs.shelf.Ways.{decides-below-and}
-use Rattle.text.specs.Hex.{nibble-of, both, byte-of, in-front, pairs-of, lower, upper, shown-pairs, hex-of}
+use Rattle.text.specs.Hex.{nibble-of, both, byte-of, in-front, pairs-of, lower, upper, shown-pairs, hex-of, shown-hex4, is-dash, bytes-of, hex4-of, Bytes-come-back, Hex4-comes-back}
 
 pub shown-append : (xs ys : List ℕ) → shown-pairs (xs ++ ys) ≡ shown-pairs xs ++ shown-pairs ys
 shown-append [] ys = refl
@@ -77,3 +77,19 @@ hex-of-some (b ∷ bs) e = refl
 
 pub upper-ascii : (d : ℕ) → d < 16 → upper d < 128
 upper-ascii d h = all-getD (λ c. c < 128) (codes "0123456789ABCDEF") d 0 h (omega arith)
+
+-- two digits and more are neither nothing nor a dash
+long : (b : ℕ) (bs : List ℕ) → bytes-of (shown-pairs (b ∷ bs)) ≡ pairs-of (shown-pairs (b ∷ bs))
+long b bs =
+    cond-false (eqb (length (shown-pairs (b ∷ bs))) 0) _ _ (ne-eqb _ 0 (omega arith))
+    ∙ cond-false (is-dash (shown-pairs (b ∷ bs))) _ _ (and-left _ _ (ne-eqb (length (shown-pairs (b ∷ bs))) 1 (omega arith)))
+
+pub bytes-back : Bytes-come-back
+unfolding hex-of
+bytes-back [] h = refl
+bytes-back (b ∷ bs) h = long b bs ∙ pairs-back (b ∷ bs) h
+
+pub hex4-back : Hex4-comes-back
+unfolding shown-hex4
+hex4-back n h =
+    (λ i. both 256 (byte-back (n / 256) (omega arith) i) (byte-back (n % 256) (omega arith) i)) ∙ ap (λ (k : ℕ). Some k) (omega arith)

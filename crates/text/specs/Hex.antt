@@ -1,10 +1,12 @@
 -- Bytes as pairs of hexadecimal digits, and back.
+use mathlib.Core.Path.{_≡_}
 use mathlib.Core.Bool.{Bool, true, false, cond, _&&_}
 use mathlib.Core.List.{List, [], _∷_, _++_}
-use Prim.Native.Nat.{ℕ, _+_, _-_, _*_, _/_, _%_}
-use lib.Dec.{leb, ltb, eqb}
+use Prim.Native.Nat.{ℕ, _+_, _-_, _*_, _/_, _%_, _<_}
+use lib.Dec.{leb, eqb}
 use lib.Chars.{codes}
 use lib.ListN.{length, getD}
+use Rattle.std.specs.shelf.Lists.{All}
 use Rattle.std.specs.declared.option.Option.{Option}
 use Rattle.std.specs.declared.option.Option.the-variants.{None, Some}
 
@@ -62,3 +64,10 @@ hex-of (b ∷ bs) = shown-pairs (b ∷ bs)
 -- how a number of 16 bits is written: always by four digits
 unfoldable pub shown-hex4 : ℕ → List ℕ
 shown-hex4 n = shown-pairs (n / 256 ∷ n % 256 ∷ [])
+
+-- what is written is read back
+abbrev pub Bytes-come-back : Type 0
+Bytes-come-back = (bs : List ℕ) → All (λ b. b < 256) bs → bytes-of (hex-of bs) ≡ Some bs
+
+abbrev pub Hex4-comes-back : Type 0
+Hex4-comes-back = (n : ℕ) → n < 65536 → hex4-of (shown-hex4 n) ≡ Some n

@@ -1,11 +1,13 @@
 -- The numbers that words write.
+use mathlib.Core.Path.{_≡_}
 use mathlib.Core.Bool.{Bool, true, false, cond, _&&_}
 use mathlib.Core.List.{List, [], _∷_}
-use Prim.Native.Nat.{ℕ, _+_, _-_, _*_, _^_}
+use Prim.Native.Nat.{ℕ, _+_, _-_, _*_, _^_, _<_}
 use lib.Dec.{leb, eqb}
 use lib.IntN.{ℤ, pos, negℤ}
 use lib.ListN.{length, getD, drop}
 use Rattle.std.specs.Options.{mapped}
+use Rattle.std.specs.Written.{decimal}
 use Rattle.std.specs.declared.option.Option.{Option}
 use Rattle.std.specs.declared.option.Option.the-variants.{None, Some}
 
@@ -43,3 +45,7 @@ signed-of word = cond (eqb (getD word 0 0) 45) (mapped (λ n. negℤ (pos n)) (n
 -- just one digit, 0 or 1
 abbrev pub bit-of : List ℕ → Option Bool
 bit-of word = cond (eqb (length word) 1) (cond (eqb (getD word 0 0) 48) (Some false) (cond (eqb (getD word 0 0) 49) (Some true) None)) None
+
+-- what `{n}` writes of a number is read back
+abbrev pub Numbers-come-back : Type 0
+Numbers-come-back = (n : ℕ) → n < 2 ^ 64 → number-of (2 ^ 64 - 1) (decimal n) ≡ Some n

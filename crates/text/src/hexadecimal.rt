@@ -3,7 +3,7 @@ ghost use mathlib.Core.Path.{_≡_};
 ghost use Rattle.std.specs.Options.{mapped};
 ghost use Rattle.std.specs.Of.Vec.{vec-items};
 ghost use Rattle.std.specs.Vec.{made};
-ghost use Rattle.text.specs.Hex.{nibble-of, byte-of, pairs-of, bytes-of, hex4-of};
+ghost use Rattle.text.specs.Hex.{nibble-of, byte-of, pairs-of, bytes-of, hex4-of, Bytes-come-back, Hex4-comes-back};
 use std::alloc::AllocError;
 use std::alloc::Global;
 
@@ -48,7 +48,8 @@ fn pairs(heap: Global, word: &[u8]) -> Result<Option<Vec<u8>>, AllocError>
 
 // Pairs of digits, or a dash for no bytes.
 pub fn bytes(heap: Global, word: &[u8]) -> Result<Option<Vec<u8>>, AllocError>
-    ensures { λ r. ⌜ made r (λ o. mapped vec-items o ≡ bytes-of (now (word .entry))) ⌝ }
+    ensures value { λ r. ⌜ made r (λ o. mapped vec-items o ≡ bytes-of (now (word .entry))) ⌝ }
+    ensures reads_back { λ _. ⌜ Bytes-come-back ⌝ }
 {
     match word {
         [] => Ok(None),
@@ -58,13 +59,13 @@ pub fn bytes(heap: Global, word: &[u8]) -> Result<Option<Vec<u8>>, AllocError>
 }
 
 pub fn hex4(word: &[u8]) -> Option<u16>
-    ensures { λ r. ⌜ r ≡ hex4-of (now (word .entry)) ⌝ }
+    ensures value { λ r. ⌜ r ≡ hex4-of (now (word .entry)) ⌝ }
+    ensures reads_back { λ _. ⌜ Hex4-comes-back ⌝ }
 {
-    match word {
-        [a, b, c, d] => match (byte(*a, *b), byte(*c, *d)) {
-            (Some(high), Some(low)) => Some(high as u16 * 256 + low as u16),
-            _ => None,
-        },
-        _ => None,
-    }
+    let [a, b, c, d] = word else {
+        return None;
+    };
+    let high = byte(*a, *b)?;
+    let low = byte(*c, *d)?;
+    Some(high as u16 * 256 + low as u16)
 }

@@ -2,7 +2,7 @@
 ghost use mathlib.Core.Path.{_≡_};
 ghost use Prim.Native.Nat.{_+_, _-_, _*_, _^_, _≤_};
 ghost use Rattle.std.specs.Options.{Cases};
-ghost use Rattle.text.specs.Numbers.{digit-of, within, number-of, signed-of, bit-of};
+ghost use Rattle.text.specs.Numbers.{digit-of, within, number-of, signed-of, bit-of, Numbers-come-back};
 
 fn digit(c: u8) -> Option<u8>
     ensures { λ r. ⌜ r ≡ digit-of c ⌝ }
@@ -40,7 +40,8 @@ fn at_most(word: &[u8], limit: u64) -> Option<u64>
 }
 
 pub fn number(word: &[u8]) -> Option<u64>
-    ensures { λ r. ⌜ r ≡ number-of (2 ^ 64 - 1) (now (word .entry)) ⌝ }
+    ensures value { λ r. ⌜ r ≡ number-of (2 ^ 64 - 1) (now (word .entry)) ⌝ }
+    ensures reads_back { λ _. ⌜ Numbers-come-back ⌝ }
 {
     at_most(word, u64::MAX)
 }

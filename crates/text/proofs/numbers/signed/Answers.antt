@@ -9,8 +9,8 @@ use Rattle.text.proofs.numbers.signed.Needs as need
 pub returns-in-Some : need.returns-in-Some
 returns-in-Some c =
     let small = c .in-Some .ensures tt .bound in
-    let same : _ ≡ negℤ (pos (c .in-Some .n)) = omega (arith, ints) in
-    ap (λ (z : ℤ). Some z) same ∙ with-minus (c .args .word .now) _ (omega arith) (c .in-Some .ensures tt .value)
+    let minus = with-minus (c .args .word .now) _ (omega arith) (c .in-Some .ensures tt .value) in
+    ap (λ (z : ℤ). Some z) (omega (arith, ints)) ∙ minus
 
 pub returns-in-None : need.returns-in-None
 returns-in-None c = with-minus (c .args .word .now) _ (omega arith) (c .in-None .ensures tt .value)
