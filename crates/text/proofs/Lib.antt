@@ -1,0 +1,5 @@
+pub mod Cuts
+pub mod Decimal
+pub mod HexPairs
+pub mod HexShown
+pub mod Puts
