@@ -1,0 +1,54 @@
+-- What is printed of each outcome.
+use Prim.Native.Nat.{ℕ}
+use mathlib.Core.Bool.{Bool, cond}
+use mathlib.Core.List.{List, [], _∷_, _++_}
+use lib.Chars.{codes}
+use Rattle.std.specs.Written.{decimal}
+use Rattle.frame.specs.declared.fields.Fields.{Fields}
+use Rattle.frame.specs.declared.refusal.Refusal.{Refusal}
+use Rattle.frame.specs.Naming.{type-of, channel-number}
+use Rattle.frame.specs.Refusals.{number-of, name-of}
+use Rattle.text.specs.Hex.{hex-of, shown-hex4}
+use Rattle.sheet.specs.declared.outcome.Outcome.{Outcome}
+use Rattle.sheet.specs.declared.outcome.Outcome.the-variants.{Silent, NotUnderstood, Refused, Frame, Parts}
+use Rattle.sheet.specs.declared.outcome.FrameParts.{FrameParts}
+
+-- a bit as a digit
+abbrev pub digit : Bool → List ℕ
+digit b = decimal (cond b 1 0)
+
+-- the number and the name that a person looks up
+abbrev pub shown-refusal : Refusal → List ℕ
+shown-refusal r = codes "refused " ++ (decimal (number-of r) ++ (codes " " ++ name-of r))
+
+-- the last eight bytes of a frame, field by field
+abbrev pub shown-numbers : Fields → List ℕ
+shown-numbers f =
+    codes "vc " ++ (decimal (channel-number (f .vc))
+    ++ (codes " type " ++ (decimal (type-of (f .kind))
+    ++ (codes " tail " ++ (digit (f .tail)
+    ++ (codes " error " ++ (digit (f .error)
+    ++ (codes " vcr " ++ (decimal (channel-number (f .vcr))
+    ++ (codes " cr " ++ decimal (f .cr)))))))))))
+
+abbrev pub shown-counts : Fields → List ℕ
+shown-counts f =
+    codes "rseq " ++ (decimal (f .rseq)
+    ++ (codes " tseq " ++ (decimal (f .tseq)
+    ++ (codes " ecrc " ++ (shown-hex4 (f .ecrc)
+    ++ (codes " lcrc " ++ shown-hex4 (f .lcrc)))))))
+
+-- all of a frame, part by part
+abbrev pub shown-parts : FrameParts → List ℕ
+shown-parts p =
+    shown-numbers (p .fields) ++ (codes " " ++ (shown-counts (p .fields)
+    ++ (codes " data " ++ (hex-of (p .content)
+    ++ (codes " syndrome " ++ shown-hex4 (p .syndrome))))))
+
+-- what is printed behind a line's number
+abbrev pub shown-outcome : Outcome → List ℕ
+shown-outcome Silent = []
+shown-outcome NotUnderstood = codes "not understood"
+shown-outcome (Refused r) = shown-refusal r
+shown-outcome (Frame bytes) = codes "frame " ++ hex-of bytes
+shown-outcome (Parts p) = shown-parts p

@@ -1,0 +1,20 @@
+use frame::Fields;
+use frame::Refusal;
+
+// What a line did. A line with no word and a comment are `Silent`: they print nothing.
+#[derive(Clone, Copy)]
+pub enum Outcome {
+    Silent,
+    NotUnderstood,
+    Refused(Refusal),
+    Frame([u8; 40]),
+    Parts(FrameParts),
+}
+
+// What a frame holds, part by part.
+#[derive(Clone, Copy)]
+pub struct FrameParts {
+    pub fields: Fields,
+    pub content: [u8; 32],
+    pub syndrome: u16,
+}
