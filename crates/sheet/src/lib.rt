@@ -1,6 +1,8 @@
 // A sheet's bytes to its print.
 mod outcome;
+mod reading;
 mod showing;
+mod verb;
 
 pub use outcome::Outcome;
 pub use outcome::FrameParts;

@@ -1,0 +1,59 @@
+-- What each line of a sheet does.
+use Prim.Native.Nat.{ℕ, _-_, _^_}
+use mathlib.Core.Bool.{Bool, true, false, cond, _&&_}
+use mathlib.Core.List.{List, [], _∷_}
+use lib.Chars.{codes}
+use lib.Dec.{eqb}
+use lib.ListN.{length, getD, take}
+use Rattle.std.specs.shelf.Text.{sameBytes}
+use Rattle.std.specs.declared.option.Option.{Option}
+use Rattle.std.specs.declared.option.Option.the-variants.{Some, None}
+use Rattle.frame.specs.declared.fields.Fields.{Fields}
+use Rattle.frame.specs.declared.fields.Numbers.{Numbers}
+use Rattle.frame.specs.declared.refusal.Refusal.{Refusal}
+use Rattle.frame.specs.Checks.{syndrome-of}
+use Rattle.frame.specs.Codec.{numbers-refusal, fields-from, emit-refusal, frame-refusal}
+use Rattle.frame.specs.Layout.{frame-of, fields-of}
+use Rattle.text.specs.Hex.{bytes-of, hex4-of}
+use Rattle.text.specs.Numbers.{number-of, bit-of}
+use Rattle.sheet.specs.declared.outcome.Outcome.{Outcome}
+use Rattle.sheet.specs.declared.outcome.Outcome.the-variants.{Silent, NotUnderstood, Refused, Frame, Parts}
+use Rattle.sheet.specs.declared.outcome.FrameParts.{FrameParts}
+use Rattle.sheet.specs.declared.verb.Verb.{Verb}
+use Rattle.sheet.specs.declared.verb.Verb.the-variants as verbs
+
+-- whether a word is this text
+unfoldable pub says : List ℕ → List ℕ → Bool
+says word text = sameBytes word text
+
+-- what a line's first word asks for
+abbrev pub verb-of : List ℕ → Verb
+verb-of word = cond (says word (codes "frame")) verbs.Frame (cond (says word (codes "fields")) verbs.Fields verbs.Unknown)
+
+-- word i of a line, empty past its end
+abbrev pub word-at : List (List ℕ) → ℕ → List ℕ
+word-at ws i = getD ws i []
+
+-- what comes of a value that may be missing
+abbrev pub then-read : {A B : Type 0} → Option A → (A → Option B) → Option B
+then-read None f = None
+then-read (Some x) f = f x
+
+-- a number of 64 bits
+abbrev pub number : List ℕ → Option ℕ
+number word = number-of (2 ^ 64 - 1) word
+
+-- words 1 to 10 of a line `frame`
+abbrev pub numbers-in : List (List ℕ) → Option Numbers
+numbers-in ws =
+    then-read (number (word-at ws 1)) (λ vc.
+    then-read (number (word-at ws 2)) (λ kind.
+    then-read (bit-of (word-at ws 3)) (λ tail.
+    then-read (bit-of (word-at ws 4)) (λ error.
+    then-read (number (word-at ws 5)) (λ vcr.
+    then-read (number (word-at ws 6)) (λ cr.
+    then-read (number (word-at ws 7)) (λ rseq.
+    then-read (number (word-at ws 8)) (λ tseq.
+    then-read (hex4-of (word-at ws 9)) (λ ecrc.
+    then-read (hex4-of (word-at ws 10)) (λ lcrc.
+    Some (record { vc = vc; kind = kind; tail = tail; error = error; vcr = vcr; cr = cr; rseq = rseq; tseq = tseq; ecrc = ecrc; lcrc = lcrc })))))))))))

@@ -1,0 +1,65 @@
+// The words of a line, and what they ask for.
+ghost use mathlib.Core.Path.{_≡_};
+ghost use mathlib.Core.List.{map};
+ghost use Rattle.sheet.specs.Lines.{says, verb-of, word-at, numbers-in};
+
+use crate::verb::Verb;
+use frame::Numbers;
+use text::bit;
+use text::hex4;
+use text::number;
+
+// Whether a word is this one.
+fn is(word: &[u8], text: &str) -> bool
+    ensures { λ r. ⌜ r ≡ says (now (word .entry)) (now (text .entry)) ⌝ }
+{
+    word == text.as_bytes()
+}
+
+// What a line's first word asks for.
+fn verb(word: &[u8]) -> Verb
+    ensures { λ r. ⌜ r ≡ verb-of (now (word .entry)) ⌝ }
+{
+    if is(word, "frame") {
+        Verb::Frame
+    } else if is(word, "fields") {
+        Verb::Fields
+    } else {
+        Verb::Unknown
+    }
+}
+
+// A line's word by its place from 0, empty past the last.
+fn word<'a>(words: &[&'a [u8]], i: usize) -> &'a [u8]
+    ensures { λ r. ⌜ now r ≡ word-at (map now (now (words .entry))) i ⌝ }
+{
+    if i < words.len() { words[i] } else { &[] }
+}
+
+// Words 1 to 10 of a line `frame`: all fields but the data.
+fn numbers_in(words: &[&[u8]]) -> Option<Numbers>
+    ensures { λ r. ⌜ r ≡ numbers-in (map now (now (words .entry))) ⌝ }
+{
+    let vc = number(word(words, 1))?;
+    let kind = number(word(words, 2))?;
+    let tail = bit(word(words, 3))?;
+    let error = bit(word(words, 4))?;
+    let vcr = number(word(words, 5))?;
+    let cr = number(word(words, 6))?;
+    let rseq = number(word(words, 7))?;
+    let tseq = number(word(words, 8))?;
+    let ecrc = hex4(word(words, 9))?;
+    let lcrc = hex4(word(words, 10))?;
+    Some(Numbers {
+        vc,
+        kind,
+        tail,
+        error,
+        vcr,
+        cr,
+        rseq,
+        tseq,
+        ecrc,
+        lcrc,
+    })
+}

@@ -1,0 +1,7 @@
+// What a line's first word asks for.
+#[derive(Clone, Copy)]
+pub enum Verb {
+    Frame,
+    Fields,
+    Unknown,
+}
