@@ -1,3 +1,4 @@
 pub mod Roundtrip
 pub mod Transmitted
 pub mod Residues
+pub mod Answered

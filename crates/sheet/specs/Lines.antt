@@ -1,6 +1,6 @@
 -- What each line of a sheet does.
 use Prim.Native.Nat.{ℕ, _-_, _^_}
-use mathlib.Core.Bool.{Bool, true, false, cond, _&&_}
+use mathlib.Core.Bool.{Bool, true, false, cond, _||_}
 use mathlib.Core.List.{List, [], _∷_}
 use lib.Chars.{codes}
 use lib.Dec.{eqb}
@@ -57,3 +57,52 @@ numbers-in ws =
     then-read (hex4-of (word-at ws 9)) (λ ecrc.
     then-read (hex4-of (word-at ws 10)) (λ lcrc.
     Some (record { vc = vc; kind = kind; tail = tail; error = error; vcr = vcr; cr = cr; rseq = rseq; tseq = tseq; ecrc = ecrc; lcrc = lcrc })))))))))))
+
+-- the outcome, unless a refusal stands in its place
+abbrev pub refused-or : Option Refusal → Outcome → Outcome
+refused-or None o = o
+refused-or (Some e) o = Refused e
+
+-- numbers and data to a frame: first the numbers, then the sizes
+abbrev pub made-frame : Numbers → List ℕ → Outcome
+made-frame n content =
+    refused-or (numbers-refusal n)
+    (refused-or (emit-refusal (fields-from n) (length content) 40) (Frame (frame-of (fields-from n) content)))
+
+-- a line `frame` whose words are read
+abbrev pub frame-outcome : Option Numbers → Option (List ℕ) → Outcome
+frame-outcome None content = NotUnderstood
+frame-outcome (Some n) None = NotUnderstood
+frame-outcome (Some n) (Some content) = made-frame n content
+
+unfoldable pub frame-line : List (List ℕ) → Outcome
+frame-line ws = cond (eqb (length ws) 12) (frame-outcome (numbers-in ws) (bytes-of (word-at ws 11))) NotUnderstood
+
+-- bytes taken apart as a frame
+abbrev pub parts-in : List ℕ → FrameParts
+parts-in bytes = record { fields = fields-of bytes; content = take 32 bytes; syndrome = syndrome-of bytes }
+
+abbrev pub parts-of : List ℕ → Outcome
+parts-of bytes = refused-or (frame-refusal (length bytes)) (Parts (parts-in bytes))
+
+-- a line `fields` whose word is read
+abbrev pub fields-outcome : Option (List ℕ) → Outcome
+fields-outcome None = NotUnderstood
+fields-outcome (Some bytes) = parts-of bytes
+
+unfoldable pub fields-line : List (List ℕ) → Outcome
+fields-line ws = cond (eqb (length ws) 2) (fields-outcome (bytes-of (word-at ws 1))) NotUnderstood
+
+-- a line by its first word
+abbrev pub by-verb : Verb → List (List ℕ) → Outcome
+by-verb verbs.Frame ws = frame-line ws
+by-verb verbs.Fields ws = fields-line ws
+by-verb verbs.Unknown ws = NotUnderstood
+
+-- a line with no word, or whose first word begins with a hash sign, is silent
+abbrev pub silent : List (List ℕ) → Bool
+silent ws = eqb (length ws) 0 || eqb (getD (word-at ws 0) 0 0) 35
+
+-- what a line does, by its words
+abbrev pub outcome-of : List (List ℕ) → Outcome
+outcome-of ws = cond (silent ws) Silent (by-verb (verb-of (word-at ws 0)) ws)

@@ -1,4 +1,5 @@
 // A sheet's bytes to its print.
+mod lookups;
 mod outcome;
 mod reading;
 mod showing;

@@ -17,7 +17,7 @@ fn is(word: &[u8], text: &str) -> bool
 }
 
 // What a line's first word asks for.
-fn verb(word: &[u8]) -> Verb
+pub(crate) fn verb(word: &[u8]) -> Verb
     ensures { λ r. ⌜ r ≡ verb-of (now (word .entry)) ⌝ }
 {
     if is(word, "frame") {
@@ -30,14 +30,14 @@ fn verb(word: &[u8]) -> Verb
 }
 
 // A line's word by its place from 0, empty past the last.
-fn word<'a>(words: &[&'a [u8]], i: usize) -> &'a [u8]
+pub(crate) fn word<'a>(words: &[&'a [u8]], i: usize) -> &'a [u8]
     ensures { λ r. ⌜ now r ≡ word-at (map now (now (words .entry))) i ⌝ }
 {
     if i < words.len() { words[i] } else { &[] }
 }
 
 // Words 1 to 10 of a line `frame`: all fields but the data.
-fn numbers_in(words: &[&[u8]]) -> Option<Numbers>
+pub(crate) fn numbers_in(words: &[&[u8]]) -> Option<Numbers>
     ensures { λ r. ⌜ r ≡ numbers-in (map now (now (words .entry))) ⌝ }
 {
     let vc = number(word(words, 1))?;
