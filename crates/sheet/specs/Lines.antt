@@ -99,10 +99,10 @@ by-verb verbs.Frame ws = frame-line ws
 by-verb verbs.Fields ws = fields-line ws
 by-verb verbs.Unknown ws = NotUnderstood
 
--- a line with no word, or whose first word begins with a hash sign, is silent
-abbrev pub silent : List (List ℕ) → Bool
-silent ws = eqb (length ws) 0 || eqb (getD (word-at ws 0) 0 0) 35
+-- a line with no word (words are never empty), or whose first word begins with a hash sign, is silent
+abbrev pub silent : List ℕ → Bool
+silent first = eqb (length first) 0 || eqb (getD first 0 0) 35
 
 -- what a line does, by its words
 abbrev pub outcome-of : List (List ℕ) → Outcome
-outcome-of ws = cond (silent ws) Silent (by-verb (verb-of (word-at ws 0)) ws)
+outcome-of ws = cond (silent (word-at ws 0)) Silent (by-verb (verb-of (word-at ws 0)) ws)

@@ -1,6 +1,7 @@
 // A sheet's bytes to its print.
 mod lookups;
 mod outcome;
+mod printing;
 mod reading;
 mod showing;
 mod verb;

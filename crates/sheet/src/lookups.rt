@@ -55,3 +55,31 @@ fn take_apart(bytes: &[u8]) -> Outcome
         Err(refusal) => Outcome::Refused(refusal),
     }
 }
+
+// `frame VC TYPE TAIL ERROR VCR CR RSEQ TSEQ ECRC LCRC DATA`: the frame of these, its checks as given.
+pub(crate) fn frame_line(heap: Global, words: &[&[u8]]) -> Result<Outcome, AllocError>
+    ensures { λ r. ⌜ made r (λ o. o ≡ frame-line (map now (now (words .entry)))) ⌝ }
+{
+    if words.len() != 12 {
+        return Ok(Outcome::NotUnderstood);
+    }
+    let numbers = numbers_in(words);
+    let content = bytes(heap, word(words, 11))?;
+    match (numbers, content) {
+        (Some(numbers), Some(content)) => Ok(make_frame(&numbers, &content)),
+        _ => Ok(Outcome::NotUnderstood),
+    }
+}
+
+// `fields BYTES`: what these bytes say as a frame.
+pub(crate) fn fields_line(heap: Global, words: &[&[u8]]) -> Result<Outcome, AllocError>
+    ensures { λ r. ⌜ made r (λ o. o ≡ fields-line (map now (now (words .entry)))) ⌝ }
+{
+    if words.len() != 2 {
+        return Ok(Outcome::NotUnderstood);
+    }
+    match bytes(heap, word(words, 1))? {
+        Some(frame) => Ok(take_apart(&frame)),
+        None => Ok(Outcome::NotUnderstood),
+    }
+}

@@ -1,0 +1,13 @@
+use Prim.Native.Nat.{_+_}
+use mathlib.Core.Path.{_≡_}
+use mathlib.Core.List.{map, _++_}
+use denote.Ref.{now}
+use lib.ListN.{drop}
+use Rattle.std.specs.Of.String.{string-bytes}
+use Rattle.sheet.specs.Print.{prints-from}
+use Rattle.sheet.proofs.printing.replay.Given as given
+
+abbrev pub Inv-loop-i : given.InvT-loop-i
+Inv-loop-i l =
+    string-bytes (l .out) ++ prints-from (l .i + 1) (map now (drop (l .i) (l .line-items)))
+    ≡ prints-from 1 (map now (l .line-items))

@@ -1,0 +1,39 @@
+-- What a whole sheet prints.
+use Prim.Native.Nat.{ℕ, _+_}
+use mathlib.Core.List.{List, [], _∷_, _++_}
+use lib.Chars.{codes}
+use Rattle.std.specs.Written.{decimal}
+use Rattle.text.specs.Pieces.{lines-of, words-of}
+use Rattle.sheet.specs.declared.outcome.Outcome.{Outcome}
+use Rattle.sheet.specs.declared.outcome.Outcome.the-variants.{Silent, NotUnderstood, Refused, Frame, Parts}
+use Rattle.sheet.specs.Lines.{outcome-of}
+use Rattle.sheet.specs.Shown.{shown-outcome}
+
+-- a line's number, what it did, and a line feed
+abbrev pub numbered : ℕ → List ℕ → List ℕ
+numbered n text = decimal n ++ (codes ": " ++ (text ++ 10 ∷ []))
+
+-- nothing of a silent line
+abbrev pub shown-line : ℕ → Outcome → List ℕ
+shown-line n Silent = []
+shown-line n NotUnderstood = numbered n (shown-outcome NotUnderstood)
+shown-line n (Refused r) = numbered n (shown-outcome (Refused r))
+shown-line n (Frame bytes) = numbered n (shown-outcome (Frame bytes))
+shown-line n (Parts p) = numbered n (shown-outcome (Parts p))
+
+-- line n of a sheet
+unfoldable pub line-print : ℕ → List ℕ → List ℕ
+line-print n line = shown-line n (outcome-of (words-of line))
+
+-- lines from number n on
+unfoldable pub prints-from : ℕ → List (List ℕ) → List ℕ
+prints-from n [] = []
+prints-from n (l ∷ ls) = line-print n l ++ prints-from (n + 1) ls
+
+-- how each of the three ends stands when the sheet is over: nothing can be called yet
+unfoldable pub closing : List ℕ
+closing = codes "a loaded 0 accepted 0 messages 0 Normal\nb loaded 0 accepted 0 messages 0 Normal\nc loaded 0 accepted 0 messages 0 Normal\n"
+
+-- the whole print
+unfoldable pub printed : List ℕ → List ℕ
+printed sheet = prints-from 1 (lines-of sheet) ++ closing
