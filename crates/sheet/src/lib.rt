@@ -7,5 +7,6 @@ mod showing;
 mod verb;
 
 pub use outcome::Outcome;
+pub use printing::replay;
 pub use outcome::FrameParts;
 
