@@ -1,6 +1,7 @@
 // The numbers and names that people look up.
 ghost use mathlib.Core.Path.{_≡_};
 ghost use Rattle.frame.specs.Refusals.{number-of, name-of};
+
 use crate::refusal::Refusal;
 
 impl Refusal {
