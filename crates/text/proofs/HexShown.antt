@@ -1,5 +1,6 @@
 -- Pairs of digits as they are written. Assumes nothing.
 use mathlib.Core.Path.{_≡_, refl, sym, ap, _∙_}
+use mathlib.Core.Logic.{⊎-elim}
 use mathlib.Core.Bool.{Bool, true, false, cond, _&&_}
 use mathlib.Core.List.{List, [], _∷_, _++_, append-assoc}
 use Prim.Native.Nat.{ℕ, zero, suc, _+_, _*_, _/_, _%_, _≤_, _<_}
@@ -7,13 +8,16 @@ use native.Mathlib.Omega.{arith}
 use lib.Chars.{codes}
 use lib.Dec.{eqb}
 use lib.ListN.{length, getD, take, set}
+use Rattle.std.specs.Text.{Utf8}
+use Rattle.std.proofs.shelf.Ascii.{ascii-from-all}
+use Rattle.std.proofs.shelf.Text.{utf8-from-ascii}
 use Rattle.std.proofs.shelf.Elements.{all-getD}
-use Rattle.std.proofs.shelf.Lists.{take-more, take-more-set, take-all, length-set}
+use Rattle.std.proofs.shelf.Lists.{take-more, take-more-set, take-all, length-set, getD-past}
 use Rattle.std.specs.declared.option.Option.{Option}
 use Rattle.std.specs.declared.option.Option.the-variants.{None, Some}
 use Rattle.std.specs.Orderings.{Decides}
 use Rattle.std.specs.shelf.Lists.{All}
-use Rattle.std.proofs.shelf.Tests.{eqb-true, eq-eqb, ne-eqb, and-left, cond-false}
+use Rattle.std.proofs.shelf.Tests.{eqb-true, eq-eqb, ne-eqb, and-left, cond-false, cases-lt}
 use Rattle.std.proofs.shelf.Ways.{decides-below-and}
 use Rattle.text.specs.Hex.{nibble-of, both, byte-of, in-front, pairs-of, lower, upper, shown-pairs, hex-of, shown-hex4, is-dash, bytes-of, hex4-of, Bytes-come-back, Hex4-comes-back}
 
@@ -93,3 +97,17 @@ pub hex4-back : Hex4-comes-back
 unfolding shown-hex4
 hex4-back n h =
     (λ i. both 256 (byte-back (n / 256) (omega arith) i) (byte-back (n % 256) (omega arith) i)) ∙ ap (λ (k : ℕ). Some k) (omega arith)
+
+-- also past the table, where `getD` gives 0
+lower-ascii : (d : ℕ) → lower d < 128
+lower-ascii d =
+    ⊎-elim (λ h. all-getD (λ c. c < 128) (codes "0123456789abcdef") d 0 h (omega arith))
+    (λ h. let past : lower d ≡ 0 = getD-past (codes "0123456789abcdef") d 0 h in omega arith)
+    (cases-lt d 16)
+
+all-ascii : (bs : List ℕ) → All (λ c. c < 128) (shown-pairs bs)
+all-ascii [] = tt
+all-ascii (b ∷ bs) = (lower-ascii (b / 16), (lower-ascii (b % 16), all-ascii bs))
+
+pub shown-utf8 : (bs : List ℕ) → Utf8 (shown-pairs bs)
+shown-utf8 bs = utf8-from-ascii (shown-pairs bs) (ascii-from-all (shown-pairs bs) (all-ascii bs))

@@ -2,9 +2,8 @@
 use mathlib.Core.Path.{_≡_}
 use mathlib.Core.Bool.{Bool, true, false, cond, not, _||_}
 use mathlib.Core.List.{List, [], _∷_, _++_}
-use Prim.Native.Nat.{ℕ, _<_}
+use Prim.Native.Nat.{ℕ}
 use lib.Dec.{eqb}
-use lib.ListN.{length}
 use Rattle.std.specs.Pieces.{rejoined}
 use Rattle.std.specs.shelf.Lists.{All, kept-by, joined}
 
@@ -37,13 +36,13 @@ words-of line = kept-by some (pieces-after separates [] line)
 abbrev pub Free-of : (ℕ → Bool) → List ℕ → Type 0
 Free-of test bs = All (λ b. test b ≡ false) bs
 
--- what a cut into lines gives
+-- what a cut into lines gives: joined by line feeds they are the sheet again, and no line has one
 pub record Cut-into-lines (sheet : List ℕ) (ls : List (List ℕ)) : Type 0 where
   pub are : ls ≡ lines-of sheet
   pub whole : rejoined 10 ls ≡ sheet
   pub each : All (Free-of ends-line) ls
 
--- what a cut into words gives
+-- what a cut into words gives: none is empty or has a separator, and joined they are the line without its separators
 pub record Cut-into-words (line : List ℕ) (ws : List (List ℕ)) : Type 0 where
   pub are : ws ≡ words-of line
   pub none-empty : All (λ w. some w ≡ true) ws

@@ -58,6 +58,7 @@ pub fn bytes(heap: Global, word: &[u8]) -> Result<Option<Vec<u8>>, AllocError>
     }
 }
 
+// Just four digits, so that a shorter number has zeros in front.
 pub fn hex4(word: &[u8]) -> Option<u16>
     ensures value { λ r. ⌜ r ≡ hex4-of (now (word .entry)) ⌝ }
     ensures reads_back { λ _. ⌜ Hex4-comes-back ⌝ }

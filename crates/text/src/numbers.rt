@@ -25,6 +25,7 @@ fn grown(n: u64, digit: u8, limit: u64) -> Option<u64>
     }
 }
 
+// One or more digits, with leading zeros of any length, since the limit is on the number and not on the word.
 fn at_most(word: &[u8], limit: u64) -> Option<u64>
     ensures value { λ r. ⌜ r ≡ number-of limit (now (word .entry)) ⌝ }
     ensures bound { λ r. ⌜ Cases r (Unit {0}) (λ n. n ≤ limit) ⌝ }
@@ -39,6 +40,7 @@ fn at_most(word: &[u8], limit: u64) -> Option<u64>
     Some(n)
 }
 
+// What `{n}` writes of a number is read back.
 pub fn number(word: &[u8]) -> Option<u64>
     ensures value { λ r. ⌜ r ≡ number-of (2 ^ 64 - 1) (now (word .entry)) ⌝ }
     ensures reads_back { λ _. ⌜ Numbers-come-back ⌝ }
@@ -55,7 +57,7 @@ pub fn count(word: &[u8]) -> Option<u16>
     }
 }
 
-// A minus sign takes one number more than none, as in two's complement.
+// There is one number more with a minus sign than with none, as in two's complement.
 pub fn signed(word: &[u8]) -> Option<i32>
     ensures { λ r. ⌜ r ≡ signed-of (now (word .entry)) ⌝ }
 {

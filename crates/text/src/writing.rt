@@ -52,7 +52,8 @@ fn put_pairs<W: fmt::Write>(bytes: &[u8], f: &mut fmt::Formatter<W>) -> fmt::Res
         let text = spelled(piece);
         match std::str::from_utf8(&text[0..2 * piece.len()]) {
             Ok(s) => f.write_str(s)?,
-            Err(_) => return Err(fmt::Error),
+            // Digits are ASCII.
+            Err(_) => unreachable(),
         }
         rest = later;
     }

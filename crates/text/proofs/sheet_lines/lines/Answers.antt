@@ -18,10 +18,10 @@ loop-i-holds c = (omega arith, rw (c .new-pieces .ensures .items) refl)
 pub loop-i-again : need.loop-i-again
 loop-i-again c =
     elim (c .if-b-eq10 .came) [
-      then-b-eq10·in-Continue-push w ↦
+      | then-b-eq10·in-Continue-push w ↦
           rw (w .start-is, w .pieces-is)
           (omega arith, cut-here ends-line _ _ _ _ _ _ (c .loop-i-test .taken) (eq-eqb _ 10 (w .if-b-eq10 .taken)) (ap (map now) (w .in-Continue-push .ensures tt .items) ∙ map-push now _ _) (c .loop-i .inv .1))
-    | else-b-eq10 w ↦
+      | else-b-eq10 w ↦
           rw (w .start-is, w .pieces-is)
           (omega arith, ap (λ (l : List (List ℕ)). map now (vec-items (c .loop-i .pieces)) ++ l) (sym (inside ends-line _ _ _ (c .loop-i .inv .0) (c .loop-i-test .taken) (ne-eqb _ 10 (w .if-b-eq10 .left)))) ∙ c .loop-i .inv .1)
     ]
