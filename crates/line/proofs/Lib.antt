@@ -1,0 +1,3 @@
+pub mod Computed
+pub mod Rows
+pub mod Laws

@@ -1,0 +1,8 @@
+// A frame on the signal lines: the code of a group of four bits, where each bit of a frame stands, and the groups of a frame.
+mod code;
+mod table;
+
+pub use code::code_group;
+pub use code::decode_group;
+pub use table::standard;
+pub use table::CodeTable;
