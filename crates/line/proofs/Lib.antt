@@ -1,3 +1,4 @@
 pub mod Computed
 pub mod Rows
 pub mod Laws
+pub mod Once

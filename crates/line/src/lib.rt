@@ -1,8 +1,11 @@
 // A frame on the signal lines: the code of a group of four bits, where each bit of a frame stands, and the groups of a frame.
 mod code;
+mod places;
 mod table;
+mod width;
 
 pub use code::code_group;
 pub use code::decode_group;
 pub use table::standard;
 pub use table::CodeTable;
+pub use width::Width;
