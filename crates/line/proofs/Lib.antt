@@ -2,3 +2,4 @@ pub mod Computed
 pub mod Rows
 pub mod Laws
 pub mod Once
+pub mod Passes

@@ -1,5 +1,7 @@
 // A frame on the signal lines: the code of a group of four bits, where each bit of a frame stands, and the groups of a frame.
 mod code;
+mod counts;
+mod groups;
 mod places;
 mod table;
 mod width;
@@ -7,5 +9,6 @@ mod width;
 pub use code::code_group;
 pub use code::decode_group;
 pub use table::standard;
+pub use counts::Counts;
 pub use table::CodeTable;
 pub use width::Width;
