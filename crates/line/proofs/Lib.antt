@@ -3,3 +3,4 @@ pub mod Rows
 pub mod Laws
 pub mod Once
 pub mod Passes
+pub mod Nibbles

@@ -1,6 +1,7 @@
 -- The places of both widths are a permutation, and the tables have them: tests that antt computes.
 use Prim.Native.Nat.{ℕ, _+_, _*_, _/_, _%_, _<_}
-use mathlib.Core.Path.{_≡_, refl, sym, ap, _∙_}
+use mathlib.Core.Path.{_≡_, refl, sym, ap, ap₂, _∙_}
+use native.Mathlib.Omega.{arith}
 use mathlib.Core.Bool.{Bool}
 use mathlib.Core.List.{List, []}
 use lib.Dec.{T, eqb, ltb, eqb→eq, ltb→lt}
@@ -17,7 +18,7 @@ back n f k = both (ltb (f k) n) (eqb (sought f (f k) n) k)
 abbrev pub met : ℕ → (ℕ → ℕ) → ℕ → Bool
 met n f p = both (ltb (sought f p n) n) (eqb (f (sought f p n)) p)
 
-permutation : (n : ℕ) (f : ℕ → ℕ) → T (below (back n f) n) → T (below (met n f) n) → Permutation n f
+pub permutation : (n : ℕ) (f : ℕ → ℕ) → T (below (back n f) n) → T (below (met n f) n) → Permutation n f
 permutation n f t u =
     let test : (k : ℕ) → k < n → T (back n f k) = λ k h. at-below (back n f) n t k h in
     let has : (p : ℕ) → p < n → T (met n f p) = λ p h. at-below (met n f) n u p h in
@@ -54,3 +55,10 @@ table w v rows e t =
           eqb→eq (getD (getD rows (n / 8) []) (n % 8) 0) (place v n) (at-below (same v rows) 320 t n h)
           ∙ ap (λ (x : Width). place x n) (sym e);
     }
+
+-- the place of bit k of byte b
+pub entry :
+    (w : Width) (rows : List (List ℕ)) → Table w rows → (b k n : ℕ) → b < 40 → k < 8 → n ≡ 8 * b + k
+    → getD (getD rows b []) k 0 ≡ place w n
+entry w rows t b k n hb hk e =
+    ap₂ (λ (q r : ℕ). getD (getD rows q []) r 0) (omega arith) (omega arith) ∙ t .entries n (omega arith)

@@ -35,6 +35,10 @@ control-place Narrow c = at-group Narrow (2 * (c / 16) + c % 8 / 4) (8 + c % 16 
 unfoldable pub place : Width → ℕ → ℕ
 place w n = cond (ltb (n / 8) 32) (data-place w (n / 8) (n % 8)) (control-place w (8 * (39 - n / 8) + n % 8))
 
+-- four bits of a frame, 4 * h to 4 * h + 3, stay together: the group that has them
+unfoldable pub group-at : Width → ℕ → ℕ
+group-at w h = place w (4 * h) / 4
+
 abbrev pub placed : Width → ℕ → Result ℕ Refusal
 placed w n = cond (ltb n 320) (Ok (place w n)) (Err BadSize)
 

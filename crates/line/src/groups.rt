@@ -4,7 +4,12 @@ ghost use Prim.Native.Nat.{ℕ, _+_, _*_, _/_, _%_, _<_};
 ghost use lib.Dec.{ltb};
 ghost use lib.ListN.{length, getD};
 ghost use Rattle.line.specs.Code.{in-range};
-ghost use Rattle.line.specs.Groups.{all};
+ghost use Rattle.line.specs.Groups.{all, code-at};
+ghost use Rattle.std.specs.Iters.{counting};
+ghost use mathlib.Core.List.{map};
+
+use crate::places::groups_of;
+use crate::width::Width;
 
 // Between groups a count is from -5 to 4.
 fn in_range(counts: &[i8]) -> bool
@@ -28,4 +33,17 @@ fn are_words(groups: &[u8]) -> bool
         }
     }
     true
+}
+
+// The codes of a frame, in the order of its groups: a byte fills two.
+fn spread(width: Width, frame: &[u8], groups: &mut [u8])
+    requires frame { ⌜ length (now frame) ≡ 40 ⌝ }
+    requires groups { ⌜ length (now groups) ≡ 80 ⌝ }
+    ensures { λ _. ⌜ now (groups .exit) ≡ map (code-at width (now (frame .entry))) (counting 0 80) ⌝ }
+{
+    for b in 0..40 {
+        let (low, high) = groups_of(width, b);
+        groups[low] = frame[b] % 16;
+        groups[high] = frame[b] / 16;
+    }
 }
