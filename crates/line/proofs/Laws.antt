@@ -18,7 +18,7 @@ use Rattle.std.specs.declared.result.Result.the-variants.{Ok, Err}
 use Rattle.frame.specs.declared.refusal.Refusal.{Refusal}
 use Rattle.frame.specs.declared.refusal.Refusal.the-variants.{BadSize}
 use Rattle.std.specs.declared.option.Option.the-variants.{Some, None}
-use Rattle.line.specs.Code.{word-for, count-after, group, in-range, coded, decoded, decoding}
+use Rattle.line.specs.Code.{word-for, count-after, group-of, in-range, coded, decoded, decoding}
 use Rattle.line.specs.Tables.{Good, Told-by-T, Stays, Known, standard-rows, first, second, look-up, found-from}
 use Rattle.line.proofs.Computed.{below, at-below}
 use Rattle.line.proofs.Rows.{standard-good, standard-told}
@@ -144,8 +144,8 @@ range-true count e = (grind (arith, ints), grind (arith, ints))
 -- what holds of each coded group holds of what coding answers
 answered :
     (P : Result (ℕ × ℤ) Refusal → Type 0) (rows : List (ℕ × ℕ)) (code : ℕ) (count : ℤ) (small range : Bool)
-    → P (Err BadSize) → (small ≡ true → range ≡ true → P (Ok (group rows code count)))
-    → P (cond small (cond range (Ok (group rows code count)) (Err BadSize)) (Err BadSize))
+    → P (Err BadSize) → (small ≡ true → range ≡ true → P (Ok (group-of rows code count)))
+    → P (cond small (cond range (Ok (group-of rows code count)) (Err BadSize)) (Err BadSize))
 answered P rows code count true true wrong fine = fine refl refl
 answered P rows code count true false wrong fine = wrong
 answered P rows code count false range wrong fine = wrong

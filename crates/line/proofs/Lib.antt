@@ -4,3 +4,4 @@ pub mod Laws
 pub mod Once
 pub mod Passes
 pub mod Nibbles
+pub mod Run

@@ -4,7 +4,7 @@ use mathlib.Core.Path.{_≡_, refl, sym, ap, subst, _∙_}
 use mathlib.Core.Bool.{Bool, true, false, cond}
 use mathlib.Core.List.{List, [], _∷_}
 use native.Mathlib.Omega.{arith}
-use lib.ListN.{length, getD, drop}
+use lib.ListN.{length, getD, set, drop}
 use lib.Seq.{drop-cons}
 use borrow.Author.Tests.{clash}
 use Rattle.std.proofs.shelf.Lists.{drop-all}
@@ -52,3 +52,18 @@ unfolding all
 all-from-at test [] d h = refl
 all-from-at test (x ∷ xs) d h =
     ap (λ (b : Bool). cond b (all test xs) false) (h 0 (omega arith)) ∙ all-from-at test xs d (λ i l. h (suc i) (omega arith))
+
+-- what passes at a default passes at any place
+pub all-get : {X : Type 0} (test : X → Bool) (xs : List X) (i : ℕ) (d : X) → test d ≡ true → all test xs ≡ true → test (getD xs i d) ≡ true
+unfolding all
+all-get test [] i d e t = e
+all-get test (x ∷ xs) zero d e t = left (test x) (all test xs) t
+all-get test (x ∷ xs) (suc i) d e t = all-get test xs i d e (right (test x) (all test xs) t)
+
+pub all-set : {X : Type 0} (test : X → Bool) (xs : List X) (i : ℕ) (x : X) → all test xs ≡ true → test x ≡ true → all test (set xs i x) ≡ true
+unfolding all
+all-set test [] i x t e = refl
+all-set test (y ∷ ys) zero x t e = ap (λ (b : Bool). cond b (all test ys) false) e ∙ right (test y) (all test ys) t
+all-set test (y ∷ ys) (suc i) x t e =
+    ap (λ (b : Bool). cond b (all test (set ys i x)) false) (left (test y) (all test ys) t)
+    ∙ all-set test ys i x (right (test y) (all test ys) t) e

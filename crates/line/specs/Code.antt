@@ -22,15 +22,15 @@ abbrev pub count-after : ℤ → ℕ → ℤ
 count-after count word = count +ℤ (pos (ones word) -ℤ (pos 5 -ℤ pos (ones word)))
 
 -- a group at a count: the word and the count after it
-abbrev pub group : List (ℕ × ℕ) → ℕ → ℤ → ℕ × ℤ
-group rows code count = (word-for rows code count, count-after count (word-for rows code count))
+abbrev pub group-of : List (ℕ × ℕ) → ℕ → ℤ → ℕ × ℤ
+group-of rows code count = (word-for rows code count, count-after count (word-for rows code count))
 
 -- a count between groups
 abbrev pub in-range : ℤ → Bool
 in-range count = cond (ltZ count (negsuc 4)) false (cond (ltZ (pos 4) count) false true)
 
 abbrev pub coded : List (ℕ × ℕ) → ℕ → ℤ → Result (ℕ × ℤ) Refusal
-coded rows code count = cond (ltb code 16) (cond (in-range count) (Ok (group rows code count)) (Err BadSize)) (Err BadSize)
+coded rows code count = cond (ltb code 16) (cond (in-range count) (Ok (group-of rows code count)) (Err BadSize)) (Err BadSize)
 
 -- the bits of a word around T
 abbrev pub outer : ℕ → ℕ

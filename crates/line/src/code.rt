@@ -5,7 +5,7 @@ ghost use lib.IntN.{ℤ, pos, negsuc};
 ghost use lib.Signed.{_≤ℤ_};
 ghost use Rattle.std.specs.declared.result.Result.the-variants.{Ok};
 ghost use Rattle.line.specs.Tables.{Good, Stays, Known, standard-rows};
-ghost use Rattle.line.specs.Code.{word-for, count-after, coded, decoded, decoding};
+ghost use Rattle.line.specs.Code.{group-of, word-for, count-after, coded, decoded, decoding};
 
 use crate::table::CodeTable;
 use frame::Refusal;
@@ -28,7 +28,18 @@ fn moved(count: i8, word: u8) -> i8
     count + (ones - (5 - ones))
 }
 
-// The word of a code at a Disparity Count, together with the count after it.
+// A group at a count: its word together with the count after it.
+pub(crate) fn group(table: &CodeTable, code: u8, count: i8) -> (u8, i8)
+    requires code { ⌜ code < 16 ⌝ }
+    requires low { ⌜ negsuc 4 ≤ℤ count ⌝ }
+    requires high { ⌜ count ≤ℤ pos 4 ⌝ }
+    ensures { λ r. ⌜ r ≡ group-of (now (table .entry)) code count ⌝ }
+{
+    let word = word(table, code as usize, count);
+    (word, moved(count, word))
+}
+
+// A code of four bits at a Disparity Count from -5 to 4.
 pub fn code_group(table: &CodeTable, code: u64, count: i64) -> Result<(u8, i8), Refusal>
     ensures is { λ r. ⌜ r ≡ coded (now (table .entry)) code count ⌝ }
     ensures stays { λ r. ⌜ (Good (now (table .entry)) → Stays r) ⌝ }
@@ -37,9 +48,7 @@ pub fn code_group(table: &CodeTable, code: u64, count: i64) -> Result<(u8, i8), 
     if code >= 16 || count < -5 || count > 4 {
         return Err(Refusal::BadSize);
     }
-    let count = count as i8;
-    let word = word(table, code as usize, count);
-    Ok((word, moved(count, word)))
+    Ok(group(table, code as u8, count as i8))
 }
 
 // The code of a word: the outer bits as they are where the middle bit T is 1, else complemented.

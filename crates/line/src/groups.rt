@@ -1,14 +1,16 @@
 // The groups of a frame.
+ghost use mathlib.Core.Bool.{true};
 ghost use mathlib.Core.Path.{_≡_};
 ghost use Prim.Native.Nat.{ℕ, _+_, _*_, _/_, _%_, _<_};
 ghost use lib.Dec.{ltb};
 ghost use lib.ListN.{length, getD};
 ghost use Rattle.line.specs.Code.{in-range};
-ghost use Rattle.line.specs.Groups.{all, code-at};
-ghost use Rattle.std.specs.Iters.{counting};
-ghost use mathlib.Core.List.{map};
+ghost use Rattle.line.specs.Tables.{Good};
+ghost use Rattle.line.specs.Groups.{all, codes-of, counts-after, words-of};
 
+use crate::code::group;
 use crate::places::groups_of;
+use crate::table::CodeTable;
 use crate::width::Width;
 
 // Between groups a count is from -5 to 4.
@@ -39,11 +41,30 @@ fn are_words(groups: &[u8]) -> bool
 fn spread(width: Width, frame: &[u8], groups: &mut [u8])
     requires frame { ⌜ length (now frame) ≡ 40 ⌝ }
     requires groups { ⌜ length (now groups) ≡ 80 ⌝ }
-    ensures { λ _. ⌜ now (groups .exit) ≡ map (code-at width (now (frame .entry))) (counting 0 80) ⌝ }
+    ensures { λ _. ⌜ now (groups .exit) ≡ codes-of width (now (frame .entry)) ⌝ }
 {
     for b in 0..40 {
         let (low, high) = groups_of(width, b);
         groups[low] = frame[b] % 16;
         groups[high] = frame[b] / 16;
     }
+}
+
+// The words of codes, each at the count of its line, which alone is replaced; answers the counts after them.
+fn code_each<const N: usize>(table: &CodeTable, counts: [i8; N], groups: &mut [u8]) -> [i8; N]
+    requires good { ⌜ Good (now table) ⌝ }
+    requires lines { ⌜ 0 < N ⌝ }
+    requires counts { ⌜ all in-range counts ≡ true ⌝ }
+    requires groups { ⌜ length (now groups) ≡ 80 ⌝ }
+    requires codes { ⌜ ((g : ℕ) → getD (now groups) g 0 < 16) ⌝ }
+    ensures counts { λ r. ⌜ r ≡ counts-after (now (table .entry)) N (now (groups .entry)) (counts .entry) 80 ⌝ }
+    ensures groups { λ _. ⌜ now (groups .exit) ≡ words-of (now (table .entry)) N (now (groups .entry)) (counts .entry) ⌝ }
+{
+    let mut counts = counts;
+    for g in 0..80 {
+        let (word, count) = group(table, groups[g], counts[g % N]);
+        groups[g] = word;
+        counts[g % N] = count;
+    }
+    counts
 }

@@ -5,7 +5,7 @@ use lib.ListN.{length, getD, set}
 use Rattle.std.proofs.shelf.Lists.{length-set}
 use Rattle.std.proofs.shelf.Counted.{fill-by-all}
 use Rattle.line.specs.Places.{group-at}
-use Rattle.line.specs.Groups.{code-at}
+use Rattle.line.specs.Groups.{code-at, codes-of}
 use Rattle.line.proofs.Nibbles.{nibble, low-nibble, high-nibble, source, code-nibble, groups-once, one-more}
 use Rattle.line.proofs.groups.spread.Needs as need
 
@@ -25,6 +25,7 @@ loop-b-again c =
     λ h l. twice h (omega arith)
 
 pub returns : need.returns
+unfolding codes-of
 returns c =
     let w = c .args .width in
     let frame = c .args .frame .now in
