@@ -5,3 +5,4 @@ pub mod Once
 pub mod Passes
 pub mod Nibbles
 pub mod Run
+pub mod Bytes

@@ -58,7 +58,7 @@ number-same zero f g h = refl
 number-same (suc n) f g h =
     ap₂ (λ (a b : ℕ). a + 2 * b) (h 0 (omega arith)) (number-same n (λ k. f (suc k)) (λ k. g (suc k)) (λ k l. h (suc k) (omega arith)))
 
-low : (x : ℕ) → number 4 (λ k. x / 2 ^ k % 2) ≡ x % 16
+pub low : (x : ℕ) → number 4 (λ k. x / 2 ^ k % 2) ≡ x % 16
 unfolding number
 low x =
     let a : x / 4 ≡ x / 2 / 2 = omega arith in

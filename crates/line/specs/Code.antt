@@ -40,5 +40,9 @@ outer word = word / 8 * 4 + word % 4
 abbrev pub decoded : ℕ → ℕ
 decoded word = cond (eqb (word / 4 % 2) 1) (outer word) (15 - outer word)
 
+-- a word of five bits
+abbrev pub is-word : ℕ → Bool
+is-word word = ltb word 32
+
 abbrev pub decoding : ℕ → Result ℕ Refusal
-decoding word = cond (ltb word 32) (Ok (decoded word)) (Err BadSize)
+decoding word = cond (is-word word) (Ok (decoded word)) (Err BadSize)

@@ -2,12 +2,12 @@
 ghost use mathlib.Core.Bool.{true};
 ghost use mathlib.Core.Path.{_≡_};
 ghost use Prim.Native.Nat.{ℕ, _+_, _*_, _/_, _%_, _<_};
-ghost use lib.Dec.{ltb};
 ghost use lib.ListN.{length, getD};
-ghost use Rattle.line.specs.Code.{in-range};
+ghost use Rattle.line.specs.Code.{in-range, is-word};
 ghost use Rattle.line.specs.Tables.{Good};
-ghost use Rattle.line.specs.Groups.{all, codes-of, counts-after, words-of};
+ghost use Rattle.line.specs.Groups.{all, codes-of, counts-after, words-of, frame-of};
 
+use crate::code::code_of;
 use crate::code::group;
 use crate::places::groups_of;
 use crate::table::CodeTable;
@@ -27,7 +27,7 @@ fn in_range(counts: &[i8]) -> bool
 
 // A group has five bits.
 fn are_words(groups: &[u8]) -> bool
-    ensures { λ r. ⌜ r ≡ all (λ g. ltb g 32) (now (groups .entry)) ⌝ }
+    ensures { λ r. ⌜ r ≡ all is-word (now (groups .entry)) ⌝ }
 {
     for group in groups {
         if *group >= 32 {
@@ -67,4 +67,17 @@ fn code_each<const N: usize>(table: &CodeTable, counts: [i8; N], groups: &mut [u
         counts[g % N] = count;
     }
     counts
+}
+
+// The frame of groups: two make a byte.
+fn gather(width: Width, groups: &[u8], frame: &mut [u8])
+    requires groups { ⌜ length (now groups) ≡ 80 ⌝ }
+    requires words { ⌜ all is-word (now groups) ≡ true ⌝ }
+    requires frame { ⌜ length (now frame) ≡ 40 ⌝ }
+    ensures { λ _. ⌜ now (frame .exit) ≡ frame-of width (now (groups .entry)) ⌝ }
+{
+    for b in 0..40 {
+        let (low, high) = groups_of(width, b);
+        frame[b] = code_of(groups[low]) + 16 * code_of(groups[high]);
+    }
 }

@@ -1,5 +1,4 @@
 use mathlib.Core.Path.{_≡_}
-use lib.Dec.{ltb}
 use lib.ListN.{drop}
 use Rattle.line.specs.Code.{in-range}
 use Rattle.line.specs.Groups.{all}
