@@ -6,3 +6,4 @@ pub mod Passes
 pub mod Nibbles
 pub mod Run
 pub mod Bytes
+pub mod Back

@@ -1,23 +1,21 @@
 -- The 80 groups of a frame, coded from the counts of all lines, and the frame of 80 groups.
-use Prim.Native.Nat.{ℕ, zero, suc, _+_, _*_, _/_, _%_, _^_, _<_}
-use mathlib.Core.Path.{_≡_}
+use Prim.Native.Nat.{ℕ, zero, suc, _+_, _*_, _/_, _%_, _^_}
 use mathlib.Core.Bool.{Bool, true, false, cond}
 use mathlib.Core.List.{List, [], _∷_, map}
-use lib.Dec.{eqb, ltb}
-use lib.IntN.{ℤ, pos, negsuc}
-use lib.Signed.{_≤ℤ_}
+use lib.Dec.{eqb}
+use lib.IntN.{ℤ, pos}
 use lib.ListN.{length, getD, set}
 use Rattle.std.specs.Iters.{counting}
-use Rattle.std.specs.shelf.Lists.{All}
 use Rattle.std.specs.declared.result.Result.{Result}
 use Rattle.std.specs.declared.result.Result.the-variants.{Ok, Err}
 use Rattle.frame.specs.declared.refusal.Refusal.{Refusal}
 use Rattle.frame.specs.declared.refusal.Refusal.the-variants.{BadSize}
 use Rattle.line.specs.declared.width.Width.{Width}
-use Rattle.line.specs.declared.width.Width as width
+use Rattle.line.specs.declared.width.Width.the-variants as width
 use Rattle.line.specs.declared.counts.Counts.{Counts}
 use Rattle.line.specs.declared.counts.Counts.the-variants.{Wide, Narrow}
-use Rattle.line.specs.Code.{group-of, decoded, in-range}
+use Rattle.line.specs.Code.{group-of, decoded, in-range, is-word}
+use Rattle.line.specs.Tables.{standard-rows}
 use Rattle.line.specs.Places.{lines, place, standing}
 
 -- a test that every element passes
@@ -63,3 +61,42 @@ group-bit groups p = decoded (getD groups (p / 4) 0) / 2 ^ (p % 4) % 2
 -- the frame of coded groups: each bit is the one at its place
 unfoldable pub frame-of : Width → List ℕ → List ℕ
 frame-of w groups = map (λ b. number 8 (λ j. group-bit groups (place w (8 * b + j)))) (counting 0 40)
+
+abbrev pub counts-of : Counts → List ℤ
+counts-of (Wide counts) = counts
+counts-of (Narrow counts) = counts
+
+abbrev pub width-of : Counts → Width
+width-of (Wide counts) = width.Wide
+width-of (Narrow counts) = width.Narrow
+
+abbrev pub with-counts : Counts → List ℤ → Counts
+with-counts (Wide counts) after = Wide after
+with-counts (Narrow counts) after = Narrow after
+
+-- a frame goes out if the sizes are right and every count is in range
+abbrev pub goes : Counts → List ℕ → List ℕ → Bool
+goes counts frame groups = cond (eqb (length frame) 40) (cond (eqb (length groups) 80) (all in-range (counts-of counts)) false) false
+
+abbrev pub coded-counts : Counts → List ℕ → List ℤ
+coded-counts counts frame =
+    counts-after standard-rows (lines (width-of counts)) (codes-of (width-of counts) frame) (counts-of counts) 80
+
+abbrev pub coded-groups : Counts → List ℕ → List ℕ
+coded-groups counts frame = words-of standard-rows (lines (width-of counts)) (codes-of (width-of counts) frame) (counts-of counts)
+
+abbrev pub sent : Counts → List ℕ → List ℕ → Result Counts Refusal
+sent counts frame groups = cond (goes counts frame groups) (Ok (with-counts counts (coded-counts counts frame))) (Err BadSize)
+
+abbrev pub sent-groups : Counts → List ℕ → List ℕ → List ℕ
+sent-groups counts frame groups = cond (goes counts frame groups) (coded-groups counts frame) groups
+
+-- groups come in if the sizes are right and every group has five bits
+abbrev pub comes : List ℕ → List ℕ → Bool
+comes groups frame = cond (eqb (length groups) 80) (cond (eqb (length frame) 40) (all is-word groups) false) false
+
+abbrev pub received : List ℕ → List ℕ → Result (Unit {0}) Refusal
+received groups frame = cond (comes groups frame) (Ok tt) (Err BadSize)
+
+abbrev pub received-frame : Width → List ℕ → List ℕ → List ℕ
+received-frame w groups frame = cond (comes groups frame) (frame-of w groups) frame

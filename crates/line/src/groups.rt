@@ -1,17 +1,22 @@
 // The groups of a frame.
-ghost use mathlib.Core.Bool.{true};
+ghost use mathlib.Core.Bool.{true, cond};
 ghost use mathlib.Core.Path.{_≡_};
 ghost use Prim.Native.Nat.{ℕ, _+_, _*_, _/_, _%_, _<_};
 ghost use lib.ListN.{length, getD};
 ghost use Rattle.line.specs.Code.{in-range, is-word};
-ghost use Rattle.line.specs.Tables.{Good};
-ghost use Rattle.line.specs.Groups.{all, codes-of, counts-after, words-of, frame-of};
+ghost use Rattle.line.specs.Tables.{Good, standard-rows};
+ghost use Rattle.line.specs.Places.{lines};
+ghost use Rattle.std.specs.declared.result.Result.the-variants.{Ok, Err};
+ghost use Rattle.frame.specs.declared.refusal.Refusal.the-variants.{BadSize};
+ghost use Rattle.line.specs.Groups.{all, codes-of, counts-after, words-of, frame-of, received, received-frame};
 
 use crate::code::code_of;
 use crate::code::group;
 use crate::places::groups_of;
 use crate::table::CodeTable;
+use crate::table::standard;
 use crate::width::Width;
+use frame::Refusal;
 
 // Between groups a count is from -5 to 4.
 fn in_range(counts: &[i8]) -> bool
@@ -80,4 +85,31 @@ fn gather(width: Width, groups: &[u8], frame: &mut [u8])
         let (low, high) = groups_of(width, b);
         frame[b] = code_of(groups[low]) + 16 * code_of(groups[high]);
     }
+}
+
+// A frame goes out from counts in range.
+fn send<const N: usize>(width: Width, frame: &[u8], counts: [i8; N], groups: &mut [u8]) -> Result<[i8; N], Refusal>
+    requires lines { ⌜ lines width ≡ N ⌝ }
+    requires frame { ⌜ length (now frame) ≡ 40 ⌝ }
+    requires groups { ⌜ length (now groups) ≡ 80 ⌝ }
+    ensures answer { λ r. ⌜ r ≡ cond (all in-range (counts .entry)) (Ok (counts-after standard-rows N (codes-of width (now (frame .entry))) (counts .entry) 80)) (Err BadSize) ⌝ }
+    ensures groups { λ _. ⌜ now (groups .exit) ≡ cond (all in-range (counts .entry)) (words-of standard-rows N (codes-of width (now (frame .entry))) (counts .entry)) (now (groups .entry)) ⌝ }
+{
+    if !in_range(&counts) {
+        return Err(Refusal::BadSize);
+    }
+    spread(width, frame, groups);
+    Ok(code_each(standard(), counts, groups))
+}
+
+// 80 groups, a byte each: all lines' first groups first, data lines before control lines.
+pub fn groups_to_frame(width: Width, groups: &[u8], frame: &mut [u8]) -> Result<(), Refusal>
+    ensures answer { λ r. ⌜ r ≡ received (now (groups .entry)) (now (frame .entry)) ⌝ }
+    ensures frame { λ _. ⌜ now (frame .exit) ≡ received-frame width (now (groups .entry)) (now (frame .entry)) ⌝ }
+{
+    if groups.len() != 80 || frame.len() != 40 || !are_words(groups) {
+        return Err(Refusal::BadSize);
+    }
+    gather(width, groups, frame);
+    Ok(())
 }
