@@ -16,10 +16,10 @@ use Rattle.line.specs.declared.width.Width.{Width}
 use Rattle.line.specs.Code.{decoded, is-word, word-for}
 use Rattle.line.specs.Places.{place, group-at}
 use Rattle.line.specs.Tables.{standard-rows}
-use Rattle.line.specs.Groups.{number, group-bit, all, code-at, codes-of, counts-after, word-at, words-of, frame-of}
+use Rattle.line.specs.Groups.{number, frame-bit, group-bit, all, code-at, codes-of, counts-after, word-at, words-of, frame-of}
 use Rattle.line.proofs.Rows.{standard-good, standard-told}
 use Rattle.line.proofs.Laws.{undone, word-lt}
-use Rattle.line.proofs.Nibbles.{nibble, low-nibble, high-nibble, source, code-nibble, groups-once}
+use Rattle.line.proofs.Nibbles.{whole, nibble, nibble-bit, low-nibble, high-nibble, source, code-nibble, groups-once}
 use Rattle.line.proofs.Bytes.{byte}
 use Rattle.line.proofs.Passes.{all-from-at}
 
@@ -82,6 +82,19 @@ decodes-to w lines frame counts h l =
       (getD (counts-after standard-rows lines (codes-of w frame) counts g) (g % lines) (pos 0)) (code-small w frame g)
     ∙ code-of w frame g in-g
     ∙ ap (nibble frame) (groups-once w .apart (source w g) h (r .0) l (r .1))
+
+-- every bit of a frame stands at its place
+pub carries :
+    (w : Width) (lines : ℕ) (frame : List ℕ) (counts : List ℤ) (n : ℕ) → n < 320
+    → group-bit (words-of standard-rows lines (codes-of w frame) counts) (place w n) ≡ frame-bit frame n
+carries w lines frame counts n l =
+    let groups = words-of standard-rows lines (codes-of w frame) counts in
+    let e = whole w n l in
+    let q : place w n / 4 ≡ group-at w (n / 4) = omega (arith, e) in
+    let r : place w n % 4 ≡ n % 4 = omega (arith, e) in
+    ap₂ (λ (a b : ℕ). decoded (getD groups a 0) / 2 ^ b % 2) q r
+    ∙ ap (λ (x : ℕ). x / 2 ^ (n % 4) % 2) (decodes-to w lines frame counts (n / 4) (omega arith))
+    ∙ nibble-bit frame n
 
 pub given-back :
     (w : Width) (lines : ℕ) (frame : List ℕ) (counts : List ℤ) → length frame ≡ 40 → ((b : ℕ) → getD frame b 0 < 256)

@@ -7,3 +7,4 @@ pub mod Nibbles
 pub mod Run
 pub mod Bytes
 pub mod Back
+pub mod Sent

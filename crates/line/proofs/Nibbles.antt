@@ -122,6 +122,39 @@ high-nibble frame b h =
     let e : getD frame b 0 / 16 % 16 ≡ getD frame b 0 / 16 = omega arith in
     ap₂ (λ (x y : ℕ). getD frame x 0 / 16 ^ y % 16) q m ∙ e
 
+low-bit : (x k : ℕ) → k < 4 → x % 16 / 2 ^ k % 2 ≡ x / 2 ^ k % 2
+low-bit x zero h = omega arith
+low-bit x (suc zero) h = omega arith
+low-bit x (suc (suc zero)) h = omega arith
+low-bit x (suc (suc (suc zero))) h = omega arith
+low-bit x (suc (suc (suc (suc k)))) h = absurd (omega arith)
+
+higher : (x k : ℕ) → k < 4 → x / 16 / 2 ^ k ≡ x / 2 ^ (4 + k)
+higher x zero h = omega arith
+higher x (suc zero) h = omega arith
+higher x (suc (suc zero)) h = omega arith
+higher x (suc (suc (suc zero))) h = omega arith
+higher x (suc (suc (suc (suc k)))) h = absurd (omega arith)
+
+-- a bit of four bits of a frame
+pub nibble-bit : (frame : List ℕ) (n : ℕ) → nibble frame (n / 4) / 2 ^ (n % 4) % 2 ≡ frame-bit frame n
+nibble-bit frame n =
+    let x = getD frame (n / 8) 0 in
+    let k = n % 4 in
+    let q : n / 4 / 2 ≡ n / 8 = omega arith in
+    elim (parity (n / 4)) [
+      | inl e ↦
+          ap₂ (λ (a m : ℕ). getD frame a 0 / 16 ^ m % 16 / 2 ^ k % 2) q e
+          ∙ ap (λ (a : ℕ). a % 16 / 2 ^ k % 2) (div-one x)
+          ∙ low-bit x k (omega arith)
+          ∙ ap (λ (m : ℕ). x / 2 ^ m % 2) (omega arith)
+      | inr e ↦
+          ap₂ (λ (a m : ℕ). getD frame a 0 / 16 ^ m % 16 / 2 ^ k % 2) q e
+          ∙ low-bit (x / 16) k (omega arith)
+          ∙ ap (λ (m : ℕ). m % 2) (higher x k (omega arith))
+          ∙ ap (λ (m : ℕ). x / 2 ^ m % 2) (omega arith)
+    ]
+
 -- a list that is written at the places of a permutation, one after the other
 pub one-more :
     {A : Type 0} (n : ℕ) (f : ℕ → ℕ) → Permutation n f → (xs : List A) (d : A) (v : ℕ → A) (i p : ℕ) (x : A)

@@ -32,11 +32,11 @@ pub all-end : {X : Type 0} (test : X → Bool) (xs : List X) (i : ℕ) → lengt
 unfolding all
 all-end test xs i h e = sym (e ∙ ap (all test) (drop-all i xs h))
 
-left : (a b : Bool) → cond a b false ≡ true → a ≡ true
+pub left : (a b : Bool) → cond a b false ≡ true → a ≡ true
 left true b e = refl
 left false b e = e
 
-right : (a b : Bool) → cond a b false ≡ true → b ≡ true
+pub right : (a b : Bool) → cond a b false ≡ true → b ≡ true
 right true b e = e
 right false b e = absurd (clash e)
 

@@ -1,5 +1,6 @@
 -- The 80 groups of a frame, coded from the counts of all lines, and the frame of 80 groups.
-use Prim.Native.Nat.{ℕ, zero, suc, _+_, _*_, _/_, _%_, _^_}
+use Prim.Native.Nat.{ℕ, zero, suc, _+_, _*_, _/_, _%_, _^_, _<_}
+use mathlib.Core.Path.{_≡_}
 use mathlib.Core.Bool.{Bool, true, false, cond}
 use mathlib.Core.List.{List, [], _∷_, map}
 use lib.Dec.{eqb}
@@ -100,3 +101,25 @@ received groups frame = cond (comes groups frame) (Ok tt) (Err BadSize)
 
 abbrev pub received-frame : Width → List ℕ → List ℕ → List ℕ
 received-frame w groups frame = cond (comes groups frame) (frame-of w groups) frame
+
+-- every bit of a frame stands at its place in the groups
+abbrev pub Carries : Width → List ℕ → List ℕ → Type 0
+Carries w groups frame = (n : ℕ) → n < 320 → group-bit groups (place w n) ≡ frame-bit frame n
+
+-- groups are taken, and give a frame, whatever the 40 bytes hold that it comes into
+abbrev pub Gives : Width → List ℕ → List ℕ → Type 0
+Gives w groups frame =
+    (buffer : List ℕ) → length buffer ≡ 40 → (received groups buffer ≡ Ok tt) × (received-frame w groups buffer ≡ frame)
+
+-- the laws of a frame that has gone out as groups
+abbrev pub Carried : Counts → List ℕ → List ℕ → Result Counts Refusal → Type 0
+Carried counts frame groups (Ok after) = Carries (width-of counts) groups frame
+Carried counts frame groups (Err e) = Unit {0}
+
+abbrev pub Given-back : Counts → List ℕ → List ℕ → Result Counts Refusal → Type 0
+Given-back counts frame groups (Ok after) = Gives (width-of counts) groups frame
+Given-back counts frame groups (Err e) = Unit {0}
+
+abbrev pub Stay : Result Counts Refusal → Type 0
+Stay (Ok after) = all in-range (counts-of after) ≡ true
+Stay (Err e) = Unit {0}

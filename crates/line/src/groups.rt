@@ -8,10 +8,11 @@ ghost use Rattle.line.specs.Tables.{Good, standard-rows};
 ghost use Rattle.line.specs.Places.{lines};
 ghost use Rattle.std.specs.declared.result.Result.the-variants.{Ok, Err};
 ghost use Rattle.frame.specs.declared.refusal.Refusal.the-variants.{BadSize};
-ghost use Rattle.line.specs.Groups.{all, codes-of, counts-after, words-of, frame-of, received, received-frame};
+ghost use Rattle.line.specs.Groups.{all, codes-of, counts-after, words-of, frame-of, received, received-frame, sent, sent-groups, Stay, Carried, Given-back};
 
 use crate::code::code_of;
 use crate::code::group;
+use crate::counts::Counts;
 use crate::places::groups_of;
 use crate::table::CodeTable;
 use crate::table::standard;
@@ -102,7 +103,24 @@ fn send<const N: usize>(width: Width, frame: &[u8], counts: [i8; N], groups: &mu
     Ok(code_each(standard(), counts, groups))
 }
 
-// 80 groups, a byte each: all lines' first groups first, data lines before control lines.
+// The groups of a frame, a byte each with w as bit 0: all lines' first groups first, data lines before control lines.
+pub fn frame_to_groups(frame: &[u8], counts: Counts, groups: &mut [u8]) -> Result<Counts, Refusal>
+    ensures answer { λ r. ⌜ r ≡ sent counts (now (frame .entry)) (now (groups .entry)) ⌝ }
+    ensures groups { λ _. ⌜ now (groups .exit) ≡ sent-groups counts (now (frame .entry)) (now (groups .entry)) ⌝ }
+    ensures stay { λ r. ⌜ Stay r ⌝ }
+    ensures carried { λ r. ⌜ Carried counts (now (frame .entry)) (now (groups .exit)) r ⌝ }
+    ensures back { λ r. ⌜ Given-back counts (now (frame .entry)) (now (groups .exit)) r ⌝ }
+{
+    if frame.len() != 40 || groups.len() != 80 {
+        return Err(Refusal::BadSize);
+    }
+    match counts {
+        Counts::Wide(counts) => Ok(Counts::Wide(send(Width::Wide, frame, counts, groups)?)),
+        Counts::Narrow(counts) => Ok(Counts::Narrow(send(Width::Narrow, frame, counts, groups)?)),
+    }
+}
+
+// The frame of 80 groups in the same order.
 pub fn groups_to_frame(width: Width, groups: &[u8], frame: &mut [u8]) -> Result<(), Refusal>
     ensures answer { λ r. ⌜ r ≡ received (now (groups .entry)) (now (frame .entry)) ⌝ }
     ensures frame { λ _. ⌜ now (frame .exit) ≡ received-frame width (now (groups .entry)) (now (frame .entry)) ⌝ }

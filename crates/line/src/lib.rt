@@ -8,6 +8,7 @@ mod width;
 
 pub use code::code_group;
 pub use code::decode_group;
+pub use groups::frame_to_groups;
 pub use groups::groups_to_frame;
 pub use places::place_of;
 pub use table::standard;
