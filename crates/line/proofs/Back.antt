@@ -79,7 +79,7 @@ decodes-to w lines frame counts h l =
     let r = groups-once w .reach g in-g in
     ap decoded (word-of w lines frame counts g in-g)
     ∙ undone standard-rows standard-good standard-told (getD (codes-of w frame) g 0)
-      (getD (counts-after standard-rows lines (codes-of w frame) counts g) (g % lines) (pos 0)) (code-small w frame g)
+    (getD (counts-after standard-rows lines (codes-of w frame) counts g) (g % lines) (pos 0)) (code-small w frame g)
     ∙ code-of w frame g in-g
     ∙ ap (nibble frame) (groups-once w .apart (source w g) h (r .0) l (r .1))
 

@@ -38,7 +38,7 @@ byte w groups b l s t =
     let F : ℕ → ℕ = λ j. group-bit groups (place w (8 * b + j)) in
     halves F
     ∙ ap₂ (λ (x y : ℕ). x + 16 * y)
-      (number-same 4 F (λ k. group-bit groups (place w (4 * (2 * b) + k))) (λ k m. ap (λ (n : ℕ). group-bit groups (place w n)) (omega arith))
-      ∙ half w groups (2 * b) (omega arith) s)
-      (number-same 4 (λ k. F (4 + k)) (λ k. group-bit groups (place w (4 * (2 * b + 1) + k))) (λ k m. ap (λ (n : ℕ). group-bit groups (place w n)) (omega arith))
-      ∙ half w groups (2 * b + 1) (omega arith) t)
+    (number-same 4 F (λ k. group-bit groups (place w (4 * (2 * b) + k))) (λ k m. ap (λ (n : ℕ). group-bit groups (place w n)) (omega arith))
+    ∙ half w groups (2 * b) (omega arith) s)
+    (number-same 4 (λ k. F (4 + k)) (λ k. group-bit groups (place w (4 * (2 * b + 1) + k))) (λ k m. ap (λ (n : ℕ). group-bit groups (place w n)) (omega arith))
+    ∙ half w groups (2 * b + 1) (omega arith) t)

@@ -78,9 +78,9 @@ high x =
 
 parity : (h : ℕ) → (h % 2 ≡ 0) ⊎ (h % 2 ≡ 1)
 parity h = elim (eqb (h % 2) 0) as (λ b. b ≡ eqb (h % 2) 0 → (h % 2 ≡ 0) ⊎ (h % 2 ≡ 1)) [
-      | true ↦ λ e. inl (true-eqb (h % 2) 0 e)
-      | false ↦ λ e. inr (let f = false-eqb (h % 2) 0 e in omega arith)
-    ] refl
+  | true ↦ λ e. inl (true-eqb (h % 2) 0 e)
+  | false ↦ λ e. inr (let f = false-eqb (h % 2) 0 e in omega arith)
+] refl
 
 div-one : (x : ℕ) → x / 1 ≡ x
 div-one x = omega arith

@@ -53,7 +53,7 @@ gone counts frame bytes len range =
           let t = comes-in counts frame buffer e in (
             ap (λ (b : Bool). cond b (Ok tt) (Err BadSize)) t,
             ap (λ (b : Bool). cond b (frame-of w (coded-groups counts frame)) buffer) t
-            ∙ given-back w (lines w) frame (counts-of counts) len bytes,
+                ∙ given-back w (lines w) frame (counts-of counts) len bytes,
           );
     }
 

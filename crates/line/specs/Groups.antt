@@ -5,7 +5,7 @@ use mathlib.Core.Bool.{Bool, true, false, cond}
 use mathlib.Core.List.{List, [], _∷_, map}
 use lib.Dec.{eqb}
 use lib.IntN.{ℤ, pos}
-use lib.ListN.{length, getD, set}
+use lib.ListN.{length, getD, set, replicate}
 use Rattle.std.specs.Iters.{counting}
 use Rattle.std.specs.declared.result.Result.{Result}
 use Rattle.std.specs.declared.result.Result.the-variants.{Ok, Err}
@@ -70,6 +70,11 @@ counts-of (Narrow counts) = counts
 abbrev pub width-of : Counts → Width
 width-of (Wide counts) = width.Wide
 width-of (Narrow counts) = width.Narrow
+
+-- every line begins at 0
+abbrev pub fresh : Width → Counts
+fresh width.Wide = Wide (replicate 20 (pos 0))
+fresh width.Narrow = Narrow (replicate 10 (pos 0))
 
 abbrev pub with-counts : Counts → List ℤ → Counts
 with-counts (Wide counts) after = Wide after

@@ -6,7 +6,6 @@ ghost use lib.Signed.{_≤ℤ_};
 ghost use Rattle.std.specs.declared.result.Result.the-variants.{Ok};
 ghost use Rattle.line.specs.Tables.{Good, Stays, Known, standard-rows};
 ghost use Rattle.line.specs.Code.{group-of, word-for, count-after, coded, decoded, decoding};
-
 use crate::table::CodeTable;
 use frame::Refusal;
 

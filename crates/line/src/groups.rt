@@ -9,7 +9,6 @@ ghost use Rattle.line.specs.Places.{lines};
 ghost use Rattle.std.specs.declared.result.Result.the-variants.{Ok, Err};
 ghost use Rattle.frame.specs.declared.refusal.Refusal.the-variants.{BadSize};
 ghost use Rattle.line.specs.Groups.{all, codes-of, counts-after, words-of, frame-of, received, received-frame, sent, sent-groups, Stay, Carried, Given-back};
-
 use crate::code::code_of;
 use crate::code::group;
 use crate::counts::Counts;
@@ -89,7 +88,12 @@ fn gather(width: Width, groups: &[u8], frame: &mut [u8])
 }
 
 // A frame goes out from counts in range.
-fn send<const N: usize>(width: Width, frame: &[u8], counts: [i8; N], groups: &mut [u8]) -> Result<[i8; N], Refusal>
+fn send<const N: usize>(
+    width: Width,
+    frame: &[u8],
+    counts: [i8; N],
+    groups: &mut [u8],
+) -> Result<[i8; N], Refusal>
     requires lines { ⌜ lines width ≡ N ⌝ }
     requires frame { ⌜ length (now frame) ≡ 40 ⌝ }
     requires groups { ⌜ length (now groups) ≡ 80 ⌝ }

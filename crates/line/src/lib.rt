@@ -8,10 +8,13 @@ mod width;
 
 pub use code::code_group;
 pub use code::decode_group;
+pub use counts::Counts;
 pub use groups::frame_to_groups;
 pub use groups::groups_to_frame;
 pub use places::place_of;
-pub use table::standard;
-pub use counts::Counts;
 pub use table::CodeTable;
+pub use table::standard;
 pub use width::Width;
+
+#[cfg(test)]
+mod tests;

@@ -2,7 +2,6 @@
 ghost use mathlib.Core.Path.{_≡_};
 ghost use Prim.Native.Nat.{ℕ, _+_, _*_, _/_, _%_, _<_};
 ghost use Rattle.line.specs.Places.{Table, Permutation, place, placed, group-at};
-
 use crate::width::Width;
 use frame::Refusal;
 

@@ -60,10 +60,9 @@ loop-g-again g c =
     c .group-word .ensures ∙ ap (group-of rows (getD groups i 0)) (toZ-ofZ w8 count fits) in
     let q : getD groups i 0 ≡ getD codes i 0 = c .loop-g .inv .2 i (omega arith) in
     let next-fits : SFits w8 (r .1) = search needs in
-    let len : length groups ≡ 80 = c .loop-g .kept .groups ∙ c .pre .groups in
-    (
+    let len : length groups ≡ 80 = c .loop-g .kept .groups ∙ c .pre .groups in (
       ap (set so-far (i % g .N)) (toZ-ofZ w8 (r .1) next-fits)
-      ∙ counts-next rows (g .N) codes counts so-far i (getD groups i 0) (r .0) (r .1) (c .loop-g .inv .0) q p,
+          ∙ counts-next rows (g .N) codes counts so-far i (getD groups i 0) (r .0) (r .1) (c .loop-g .inv .0) q p,
       below-more _ _
           (λ k h. getD-set-other groups i k (r .0) 0 (λ e. absurd (omega arith)) ∙ c .loop-g .inv .1 k h)
           (getD-set-same groups i (r .0) 0 (omega arith)

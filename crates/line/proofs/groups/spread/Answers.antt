@@ -19,9 +19,9 @@ loop-b-again c =
     let r = c .groups-of-low .result in
     let len : length groups ≡ 80 = c .loop-b .kept .groups ∙ c .pre .groups in
     let once = one-more 80 (group-at w) (groups-once w) groups 0 (nibble frame) (2 * b) (r .0) (byte % 16)
-          (omega arith) len (c .groups-of-low .ensures .low) (sym (low-nibble frame b)) (c .loop-b .inv) in
+    (omega arith) len (c .groups-of-low .ensures .low) (sym (low-nibble frame b)) (c .loop-b .inv) in
     let twice = one-more 80 (group-at w) (groups-once w) (set groups (r .0) (byte % 16)) 0 (nibble frame) (2 * b + 1) (r .1) (byte / 16)
-          (omega arith) (length-set groups (r .0) (byte % 16) ∙ len) (c .groups-of-low .ensures .high) (sym (high-nibble frame b (omega (arith, c .typed .frame b)))) once in
+    (omega arith) (length-set groups (r .0) (byte % 16) ∙ len) (c .groups-of-low .ensures .high) (sym (high-nibble frame b (omega (arith, c .typed .frame b)))) once in
     λ h l. twice h (omega arith)
 
 pub returns : need.returns
