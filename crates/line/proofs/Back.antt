@@ -1,7 +1,7 @@
 -- The groups of a frame give that frame.
-use Prim.Native.Nat.{ℕ, zero, suc, _+_, _*_, _/_, _%_, _^_, _<_, _≤_}
+use Prim.Native.Nat.{ℕ, _+_, _*_, _/_, _%_, _^_, _<_, _≤_}
 use mathlib.Core.Path.{_≡_, refl, sym, ap, ap₂, subst, _∙_}
-use mathlib.Core.Bool.{Bool, true, false, cond}
+use mathlib.Core.Bool.{true, false}
 use mathlib.Core.Logic.{_⊎_, inl, inr}
 use mathlib.Core.List.{List, map}
 use native.Mathlib.Omega.{arith}
@@ -13,7 +13,7 @@ use Rattle.std.specs.Iters.{counting}
 use Rattle.std.proofs.shelf.Counted.{getD-map-counting, length-map-counting}
 use Rattle.std.proofs.shelf.Lists.{ext-getD, getD-past}
 use Rattle.line.specs.declared.width.Width.{Width}
-use Rattle.line.specs.Code.{decoded, is-word, word-for}
+use Rattle.line.specs.Code.{decoded, is-word}
 use Rattle.line.specs.Places.{place, group-at}
 use Rattle.line.specs.Tables.{standard-rows}
 use Rattle.line.specs.Groups.{number, frame-bit, group-bit, all, code-at, codes-of, counts-after, word-at, words-of, frame-of}

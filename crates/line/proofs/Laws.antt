@@ -1,23 +1,22 @@
 -- What a good table does: its words can be looked up, and its counts stay in range.
-use Prim.Native.Nat.{ℕ, zero, suc, _+_, _-_, _<_, _≤_}
+use Prim.Native.Nat.{ℕ, zero, suc, _+_, _-_, _<_}
 use mathlib.Core.Path.{_≡_, refl, sym, ap, subst, _∙_}
 use mathlib.Core.Bool.{Bool, true, false, cond}
 use mathlib.Core.Logic.{_≢_, _⊎_, inl, inr}
 use mathlib.Core.List.{List, [], _∷_}
 use native.Mathlib.Omega.{arith}
 use lib.Dec.{T, eqb, ltb, eqb→eq}
-use lib.Count.{ones, onesIn, ones-le}
+use lib.Count.{ones, onesIn}
 use lib.IntN.{ℤ, pos, negsuc}
-use lib.Signed.{_≤ℤ_, ltZ}
-use lib.ListN.{length, getD}
+use lib.Signed.{_≤ℤ_}
+use lib.ListN.{length}
 use borrow.Author.Differences.{ints}
 use borrow.Author.Tests.{ltb-true, eq-eqb, ne-eqb, le-ltb, lt-ltb}
-use Rattle.std.specs.declared.option.Option.{Option}
 use Rattle.std.specs.declared.result.Result.{Result}
 use Rattle.std.specs.declared.result.Result.the-variants.{Ok, Err}
 use Rattle.frame.specs.declared.refusal.Refusal.{Refusal}
 use Rattle.frame.specs.declared.refusal.Refusal.the-variants.{BadSize}
-use Rattle.std.specs.declared.option.Option.the-variants.{Some, None}
+use Rattle.std.specs.declared.option.Option.the-variants.{Some}
 use Rattle.line.specs.Code.{word-for, count-after, group-of, in-range, coded, decoded, decoding}
 use Rattle.line.specs.Tables.{Good, Told-by-T, Stays, Known, standard-rows, first, second, look-up, found-from}
 use Rattle.line.proofs.Computed.{below, at-below}

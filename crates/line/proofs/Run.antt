@@ -1,18 +1,16 @@
 -- The counts of all lines while the groups of a frame go out.
-use Prim.Native.Nat.{ℕ, zero, suc, _+_, _%_, _<_, _≤_}
-use mathlib.Core.Path.{_≡_, refl, sym, ap, ap₂, subst, _∙_}
-use mathlib.Core.Bool.{Bool, true, false}
-use mathlib.Core.Logic.{_≢_}
-use mathlib.Core.List.{List, []}
+use Prim.Native.Nat.{ℕ, zero, suc, _+_, _%_, _<_}
+use mathlib.Core.Path.{_≡_, refl, ap, ap₂, _∙_}
+use mathlib.Core.Bool.{true}
+use mathlib.Core.List.{List}
 use native.Mathlib.Omega.{arith}
 use native.Mathlib.Numerals.{add-one}
 use lib.IntN.{ℤ, pos, negsuc}
 use lib.Signed.{_≤ℤ_}
 use lib.ListN.{length, getD, set}
 use borrow.Author.Differences.{ints}
-use borrow.Author.Count.{below-more}
-use Rattle.std.proofs.shelf.Lists.{length-set, getD-set-same, getD-set-other}
-use Rattle.line.specs.Code.{group-of, word-for, count-after, in-range}
+use Rattle.std.proofs.shelf.Lists.{length-set}
+use Rattle.line.specs.Code.{group-of, in-range}
 use Rattle.line.specs.Tables.{Good}
 use Rattle.line.specs.Groups.{all, counts-after, word-at}
 use Rattle.line.proofs.Laws.{stays, range-true}

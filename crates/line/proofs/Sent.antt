@@ -13,10 +13,10 @@ use Rattle.frame.specs.declared.refusal.Refusal.{Refusal}
 use Rattle.frame.specs.declared.refusal.Refusal.the-variants.{BadSize}
 use Rattle.line.specs.declared.counts.Counts.{Counts}
 use Rattle.line.specs.declared.counts.Counts.the-variants.{Wide, Narrow}
-use Rattle.line.specs.Code.{in-range, is-word}
+use Rattle.line.specs.Code.{in-range}
 use Rattle.line.specs.Places.{lines}
 use Rattle.line.specs.Tables.{standard-rows}
-use Rattle.line.specs.Groups.{all, codes-of, counts-of, width-of, with-counts, goes, comes, coded-counts, coded-groups, sent, sent-groups, received, received-frame, frame-of, Gives, Carried, Given-back, Stay}
+use Rattle.line.specs.Groups.{all, codes-of, counts-of, width-of, with-counts, goes, comes, coded-counts, coded-groups, sent, sent-groups, frame-of, Carried, Given-back, All-stay}
 use Rattle.line.proofs.Rows.{standard-good}
 use Rattle.line.proofs.Run.{range-after}
 use Rattle.line.proofs.Passes.{left, right}
@@ -27,7 +27,7 @@ replaced (Wide counts) after = refl
 replaced (Narrow counts) after = refl
 
 pub record Laws (counts : Counts) (frame after : List ℕ) (r : Result Counts Refusal) : Type 0 where
-  pub stay : Stay r
+  pub stay : All-stay r
   pub carried : Carried counts frame after r
   pub back : Given-back counts frame after r
 

@@ -125,6 +125,6 @@ abbrev pub Given-back : Counts → List ℕ → List ℕ → Result Counts Refus
 Given-back counts frame groups (Ok after) = Gives (width-of counts) groups frame
 Given-back counts frame groups (Err e) = Unit {0}
 
-abbrev pub Stay : Result Counts Refusal → Type 0
-Stay (Ok after) = all in-range (counts-of after) ≡ true
-Stay (Err e) = Unit {0}
+abbrev pub All-stay : Result Counts Refusal → Type 0
+All-stay (Ok after) = all in-range (counts-of after) ≡ true
+All-stay (Err e) = Unit {0}

@@ -13,7 +13,7 @@ use Rattle.std.specs.declared.option.Option.the-variants.{Some, None}
 use Rattle.std.specs.declared.result.Result.{Result}
 use Rattle.std.specs.declared.result.Result.the-variants.{Ok, Err}
 use Rattle.frame.specs.declared.refusal.Refusal.{Refusal}
-use Rattle.line.specs.Code.{coded, decoded, word-for}
+use Rattle.line.specs.Code.{coded, decoded}
 
 abbrev pub first : List (ℕ × ℕ) → ℕ → ℕ
 first rows code = getD rows code (0, 0) .0

@@ -1,6 +1,6 @@
 // The code of a group: four bits go out as five, so that a line carries about as many ones as zeros.
 ghost use mathlib.Core.Path.{_≡_};
-ghost use Prim.Native.Nat.{ℕ, _+_, _-_, _*_, _/_, _%_, _<_, _≤_};
+ghost use Prim.Native.Nat.{ℕ, _<_};
 ghost use lib.IntN.{ℤ, pos, negsuc};
 ghost use lib.Signed.{_≤ℤ_};
 ghost use Rattle.std.specs.declared.result.Result.the-variants.{Ok};

@@ -1,14 +1,14 @@
 // The groups of a frame.
 ghost use mathlib.Core.Bool.{true, cond};
 ghost use mathlib.Core.Path.{_≡_};
-ghost use Prim.Native.Nat.{ℕ, _+_, _*_, _/_, _%_, _<_};
+ghost use Prim.Native.Nat.{ℕ, _<_};
 ghost use lib.ListN.{length, getD};
 ghost use Rattle.line.specs.Code.{in-range, is-word};
 ghost use Rattle.line.specs.Tables.{Good, standard-rows};
 ghost use Rattle.line.specs.Places.{lines};
 ghost use Rattle.std.specs.declared.result.Result.the-variants.{Ok, Err};
 ghost use Rattle.frame.specs.declared.refusal.Refusal.the-variants.{BadSize};
-ghost use Rattle.line.specs.Groups.{all, codes-of, counts-after, words-of, frame-of, received, received-frame, sent, sent-groups, Stay, Carried, Given-back};
+ghost use Rattle.line.specs.Groups.{all, codes-of, counts-after, words-of, frame-of, received, received-frame, sent, sent-groups, All-stay, Carried, Given-back};
 use crate::code::code_of;
 use crate::code::group;
 use crate::counts::Counts;
@@ -42,7 +42,7 @@ fn are_words(groups: &[u8]) -> bool
     true
 }
 
-// The codes of a frame, in the order of its groups: a byte fills two.
+// The codes of a frame, each at its group. No bit is moved by itself, since four stay together: a byte fills two groups.
 fn spread(width: Width, frame: &[u8], groups: &mut [u8])
     requires frame { ⌜ length (now frame) ≡ 40 ⌝ }
     requires groups { ⌜ length (now groups) ≡ 80 ⌝ }
@@ -74,7 +74,7 @@ fn code_each<const N: usize>(table: &CodeTable, counts: [i8; N], groups: &mut [u
     counts
 }
 
-// The frame of groups: two make a byte.
+// The frame of groups, two to a byte.
 fn gather(width: Width, groups: &[u8], frame: &mut [u8])
     requires groups { ⌜ length (now groups) ≡ 80 ⌝ }
     requires words { ⌜ all is-word (now groups) ≡ true ⌝ }
@@ -87,7 +87,7 @@ fn gather(width: Width, groups: &[u8], frame: &mut [u8])
     }
 }
 
-// A frame goes out from counts in range.
+// A frame goes out from counts in range: they are tested before the first byte is written, so that a refusal alters none.
 fn send<const N: usize>(
     width: Width,
     frame: &[u8],
@@ -111,7 +111,7 @@ fn send<const N: usize>(
 pub fn frame_to_groups(frame: &[u8], counts: Counts, groups: &mut [u8]) -> Result<Counts, Refusal>
     ensures answer { λ r. ⌜ r ≡ sent counts (now (frame .entry)) (now (groups .entry)) ⌝ }
     ensures groups { λ _. ⌜ now (groups .exit) ≡ sent-groups counts (now (frame .entry)) (now (groups .entry)) ⌝ }
-    ensures stay { λ r. ⌜ Stay r ⌝ }
+    ensures stay { λ r. ⌜ All-stay r ⌝ }
     ensures carried { λ r. ⌜ Carried counts (now (frame .entry)) (now (groups .exit)) r ⌝ }
     ensures back { λ r. ⌜ Given-back counts (now (frame .entry)) (now (groups .exit)) r ⌝ }
 {

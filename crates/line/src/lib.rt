@@ -15,6 +15,8 @@ pub use places::place_of;
 pub use table::CodeTable;
 pub use table::standard;
 pub use width::Width;
+pub use width::WidthDebug;
+pub use width::WidthPartialEq;
 
 #[cfg(test)]
 mod tests;

@@ -1,6 +1,6 @@
 // Where each bit of a frame stands: bit k of group g in the buffer of a frame's groups is place 4 * g + k.
 ghost use mathlib.Core.Path.{_≡_};
-ghost use Prim.Native.Nat.{ℕ, _+_, _*_, _/_, _%_, _<_};
+ghost use Prim.Native.Nat.{_+_, _*_, _<_};
 ghost use Rattle.line.specs.Places.{Table, Permutation, place, placed, group-at};
 use crate::width::Width;
 use frame::Refusal;

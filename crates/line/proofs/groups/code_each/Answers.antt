@@ -1,12 +1,11 @@
-use Prim.Native.Nat.{ℕ, _+_, _%_, _<_, _≤_}
-use mathlib.Core.Path.{_≡_, refl, sym, ap, subst, _∙_}
+use Prim.Native.Nat.{_%_}
+use mathlib.Core.Path.{_≡_, refl, ap, _∙_}
 use mathlib.Core.Bool.{true}
-use mathlib.Core.Logic.{_≢_}
 use native.Mathlib.Omega.{arith}
-use lib.IntN.{ℤ, pos, negsuc}
+use lib.IntN.{pos}
 use lib.ListN.{length, getD, set}
 use mir.Syntax.{w8}
-use mir.Val.{toZ, ofZ, SFits}
+use mir.Val.{SFits}
 use borrow.Author.Differences.{ints}
 use borrow.Author.Count.{below-more}
 use borrow.Author.Needs.{needs}
