@@ -1,0 +1,4 @@
+pub mod Code
+pub mod Groups
+pub mod Places
+pub mod Tables
