@@ -1,0 +1,4 @@
+pub mod Numbers
+pub mod Search
+pub mod Calls
+pub mod Copies
