@@ -1,7 +1,6 @@
 -- Copies and acknowledgements on their wires: each step keeps what is said of them, and so numbers suffice.
 use mathlib.Core.Path.{_≡_, refl, sym, ap, _∙_}
 use mathlib.Core.List.{List, [], _∷_, _++_}
-use mathlib.Core.Bool.{true, false}
 use Prim.Native.Nat.{ℕ, zero, suc, _+_, _-_, _%_, _<_, _≤_, max}
 use lib.Dec.{eqb}
 use lib.ListN.{length, getD}
@@ -9,8 +8,7 @@ use native.Mathlib.Nat.{mod-self, zero-mod}
 use native.Mathlib.Numerals.{add-one}
 use native.Mathlib.Omega.{arith}
 use Rattle.std.proofs.shelf.Tests.{eqb-true, eq-eqb}
-use Rattle.std.specs.declared.option.Option.{Option}
-use Rattle.std.specs.declared.option.Option.the-variants.{Some, None}
+use Rattle.std.specs.declared.option.Option.the-variants.{Some}
 use Rattle.numbers.specs.Round.{code, due, run, freed-among}
 use Rattle.numbers.specs.Wires.{Near, Flight, Rising, Sound, Reached, start, loads, sends, loses, passes, accepts, tells, misses, frees}
 use Rattle.numbers.specs.Laws.{Kept, Placed, Places, Suffice, Delivers, Figures}
