@@ -1,3 +1,4 @@
+use borrow.Author.Needs.{needs}
 use mathlib.Core.Path.{_≡_}
 use lib.Dec.{eqb}
 use Rattle.numbers.specs.Round.{due}
@@ -9,5 +10,5 @@ returns c =
     let M = c .args .modulus in
     let n = c .args .tseq in
     let last = c .args .last in
-    let e : eqb n (c .due-after .result) ≡ eqb n (due M last) = cc in
+    let e : eqb n (c .due-after .result) ≡ eqb n (due M last) = search needs in
     record { value = e; right = right M n last _ e }
