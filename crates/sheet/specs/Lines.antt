@@ -4,7 +4,10 @@ use mathlib.Core.Bool.{Bool, true, false, cond, _||_}
 use mathlib.Core.List.{List, [], _∷_}
 use lib.Chars.{codes}
 use lib.Dec.{eqb}
+use lib.IntN.{ℤ}
 use lib.ListN.{length, getD, take}
+use Rattle.std.specs.declared.result.Result.{Result}
+use Rattle.std.specs.declared.result.Result.the-variants.{Ok, Err}
 use Rattle.std.specs.shelf.Text.{sameBytes}
 use Rattle.std.specs.declared.option.Option.{Option}
 use Rattle.std.specs.declared.option.Option.the-variants.{Some, None}
@@ -14,10 +17,17 @@ use Rattle.frame.specs.declared.refusal.Refusal.{Refusal}
 use Rattle.frame.specs.Checks.{syndrome-of}
 use Rattle.frame.specs.Codec.{numbers-refusal, fields-from, emit-refusal, frame-refusal}
 use Rattle.frame.specs.Layout.{frame-of, fields-of}
+use Rattle.frame.specs.declared.refusal.Refusal.the-variants.{BadSize}
+use Rattle.line.specs.declared.width.Width.{Width}
+use Rattle.line.specs.declared.width.Width.the-variants.{Wide, Narrow}
+use Rattle.line.specs.Code.{coded, decoding, is-word}
+use Rattle.line.specs.Groups.{all, fresh, coded-groups}
+use Rattle.line.specs.Groups as groups
+use Rattle.line.specs.Tables.{standard-rows}
 use Rattle.text.specs.Hex.{bytes-of, hex4-of}
-use Rattle.text.specs.Numbers.{number-of, bit-of}
+use Rattle.text.specs.Numbers.{number-of, signed-of, bit-of}
 use Rattle.sheet.specs.declared.outcome.Outcome.{Outcome}
-use Rattle.sheet.specs.declared.outcome.Outcome.the-variants.{Silent, NotUnderstood, Refused, Frame, Parts}
+use Rattle.sheet.specs.declared.outcome.Outcome.the-variants.{Silent, NotUnderstood, Refused, Frame, Parts, Word, Code, Groups}
 use Rattle.sheet.specs.declared.outcome.FrameParts.{FrameParts}
 use Rattle.sheet.specs.declared.verb.Verb.{Verb}
 use Rattle.sheet.specs.declared.verb.Verb.the-variants as verbs
@@ -28,7 +38,17 @@ says word text = sameBytes word text
 
 -- what a line's first word asks for
 abbrev pub verb-of : List ℕ → Verb
-verb-of word = cond (says word (codes "frame")) verbs.Frame (cond (says word (codes "fields")) verbs.Fields verbs.Unknown)
+verb-of word =
+    cond (says word (codes "frame")) verbs.Frame
+    (cond (says word (codes "fields")) verbs.Fields
+    (cond (says word (codes "code")) verbs.Code
+    (cond (says word (codes "decode")) verbs.Decode
+    (cond (says word (codes "lines")) verbs.Lines
+    (cond (says word (codes "unlines")) verbs.Unlines verbs.Unknown)))))
+
+-- a width by its word
+abbrev pub width-in : List ℕ → Option Width
+width-in word = cond (says word (codes "wide")) (Some Wide) (cond (says word (codes "narrow")) (Some Narrow) None)
 
 -- word i of a line, empty past its end
 abbrev pub word-at : List (List ℕ) → ℕ → List ℕ
@@ -93,10 +113,63 @@ fields-outcome (Some bytes) = parts-of bytes
 unfoldable pub fields-line : List (List ℕ) → Outcome
 fields-line ws = cond (eqb (length ws) 2) (fields-outcome (bytes-of (word-at ws 1))) NotUnderstood
 
+-- a group that is coded
+abbrev pub word-outcome : Result (ℕ × ℤ) Refusal → Outcome
+word-outcome (Ok p) = Word (record { word = p .0; count = p .1 })
+word-outcome (Err e) = Refused e
+
+abbrev pub code-outcome : Option ℕ → Option ℤ → Outcome
+code-outcome None count = NotUnderstood
+code-outcome (Some n) None = NotUnderstood
+code-outcome (Some n) (Some count) = word-outcome (coded standard-rows n count)
+
+unfoldable pub code-line : List (List ℕ) → Outcome
+code-line ws = cond (eqb (length ws) 3) (code-outcome (number (word-at ws 1)) (signed-of (word-at ws 2))) NotUnderstood
+
+-- a group that is decoded
+abbrev pub code-of : Result ℕ Refusal → Outcome
+code-of (Ok code) = Code code
+code-of (Err e) = Refused e
+
+abbrev pub decode-outcome : Option ℕ → Outcome
+decode-outcome None = NotUnderstood
+decode-outcome (Some n) = code-of (decoding n)
+
+unfoldable pub decode-line : List (List ℕ) → Outcome
+decode-line ws = cond (eqb (length ws) 2) (decode-outcome (number (word-at ws 1))) NotUnderstood
+
+-- a frame to its groups, all counts 0 before
+abbrev pub groups-of : Width → List ℕ → Outcome
+groups-of w bytes = cond (eqb (length bytes) 40) (Groups (coded-groups (fresh w) bytes)) (Refused BadSize)
+
+abbrev pub lines-outcome : Option Width → Option (List ℕ) → Outcome
+lines-outcome None bytes = NotUnderstood
+lines-outcome (Some w) None = NotUnderstood
+lines-outcome (Some w) (Some bytes) = groups-of w bytes
+
+unfoldable pub lines-line : List (List ℕ) → Outcome
+lines-line ws = cond (eqb (length ws) 3) (lines-outcome (width-in (word-at ws 1)) (bytes-of (word-at ws 2))) NotUnderstood
+
+-- 80 groups to their frame
+abbrev pub frame-in : Width → List ℕ → Outcome
+frame-in w bytes = cond (eqb (length bytes) 80) (cond (all is-word bytes) (Frame (groups.frame-of w bytes)) (Refused BadSize)) (Refused BadSize)
+
+abbrev pub unlines-outcome : Option Width → Option (List ℕ) → Outcome
+unlines-outcome None bytes = NotUnderstood
+unlines-outcome (Some w) None = NotUnderstood
+unlines-outcome (Some w) (Some bytes) = frame-in w bytes
+
+unfoldable pub unlines-line : List (List ℕ) → Outcome
+unlines-line ws = cond (eqb (length ws) 3) (unlines-outcome (width-in (word-at ws 1)) (bytes-of (word-at ws 2))) NotUnderstood
+
 -- a line by its first word
 abbrev pub by-verb : Verb → List (List ℕ) → Outcome
 by-verb verbs.Frame ws = frame-line ws
 by-verb verbs.Fields ws = fields-line ws
+by-verb verbs.Code ws = code-line ws
+by-verb verbs.Decode ws = decode-line ws
+by-verb verbs.Lines ws = lines-line ws
+by-verb verbs.Unlines ws = unlines-line ws
 by-verb verbs.Unknown ws = NotUnderstood
 
 -- a line with no word (words are never empty), or whose first word begins with a hash sign, is silent

@@ -5,7 +5,7 @@ use lib.Chars.{codes}
 use Rattle.std.specs.Written.{decimal}
 use Rattle.text.specs.Pieces.{lines-of, words-of}
 use Rattle.sheet.specs.declared.outcome.Outcome.{Outcome}
-use Rattle.sheet.specs.declared.outcome.Outcome.the-variants.{Silent, NotUnderstood, Refused, Frame, Parts}
+use Rattle.sheet.specs.declared.outcome.Outcome.the-variants.{Silent, NotUnderstood, Refused, Frame, Parts, Word, Code, Groups}
 use Rattle.sheet.specs.Lines.{outcome-of}
 use Rattle.sheet.specs.Shown.{shown-outcome}
 
@@ -20,6 +20,9 @@ shown-line n NotUnderstood = numbered n (shown-outcome NotUnderstood)
 shown-line n (Refused r) = numbered n (shown-outcome (Refused r))
 shown-line n (Frame bytes) = numbered n (shown-outcome (Frame bytes))
 shown-line n (Parts p) = numbered n (shown-outcome (Parts p))
+shown-line n (Word c) = numbered n (shown-outcome (Word c))
+shown-line n (Code code) = numbered n (shown-outcome (Code code))
+shown-line n (Groups bytes) = numbered n (shown-outcome (Groups bytes))
 
 -- line n of a sheet
 unfoldable pub line-print : ℕ → List ℕ → List ℕ

@@ -1,16 +1,17 @@
 -- What is printed of each outcome.
-use Prim.Native.Nat.{ℕ}
+use Prim.Native.Nat.{ℕ, _/_, _%_}
 use mathlib.Core.Bool.{Bool, cond}
 use mathlib.Core.List.{List, [], _∷_, _++_}
 use lib.Chars.{codes}
-use Rattle.std.specs.Written.{decimal}
+use Rattle.std.specs.Written.{decimal, signed}
 use Rattle.frame.specs.declared.fields.Fields.{Fields}
 use Rattle.frame.specs.declared.refusal.Refusal.{Refusal}
 use Rattle.frame.specs.Naming.{type-of, channel-number}
 use Rattle.frame.specs.Refusals.{number-of, name-of}
 use Rattle.text.specs.Hex.{hex-of, shown-hex4}
 use Rattle.sheet.specs.declared.outcome.Outcome.{Outcome}
-use Rattle.sheet.specs.declared.outcome.Outcome.the-variants.{Silent, NotUnderstood, Refused, Frame, Parts}
+use Rattle.sheet.specs.declared.outcome.Outcome.the-variants.{Silent, NotUnderstood, Refused, Frame, Parts, Word, Code, Groups}
+use Rattle.sheet.specs.declared.outcome.CodedWord.{CodedWord}
 use Rattle.sheet.specs.declared.outcome.FrameParts.{FrameParts}
 
 -- a bit as a digit
@@ -45,6 +46,14 @@ shown-parts p =
     ++ (codes " data " ++ (hex-of (p .content)
     ++ (codes " syndrome " ++ shown-hex4 (p .syndrome))))))
 
+-- five bits, z y T x w
+abbrev pub shown-bits : ℕ → List ℕ
+shown-bits w =
+    decimal (w / 16 % 2) ++ (decimal (w / 8 % 2) ++ (decimal (w / 4 % 2) ++ (decimal (w / 2 % 2) ++ decimal (w % 2))))
+
+abbrev pub shown-word : CodedWord → List ℕ
+shown-word c = codes "word " ++ (shown-bits (c .word) ++ (codes " count " ++ signed (c .count)))
+
 -- what is printed behind a line's number
 abbrev pub shown-outcome : Outcome → List ℕ
 shown-outcome Silent = []
@@ -52,3 +61,6 @@ shown-outcome NotUnderstood = codes "not understood"
 shown-outcome (Refused r) = shown-refusal r
 shown-outcome (Frame bytes) = codes "frame " ++ hex-of bytes
 shown-outcome (Parts p) = shown-parts p
+shown-outcome (Word c) = shown-word c
+shown-outcome (Code code) = codes "code " ++ decimal code
+shown-outcome (Groups bytes) = codes "lines " ++ hex-of bytes

@@ -1,4 +1,5 @@
 // A sheet's bytes to its print.
+mod coding;
 mod lookups;
 mod outcome;
 mod printing;
@@ -6,7 +7,4 @@ mod reading;
 mod showing;
 mod verb;
 
-pub use outcome::Outcome;
 pub use printing::replay;
-pub use outcome::FrameParts;
-

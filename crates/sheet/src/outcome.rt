@@ -9,6 +9,9 @@ pub enum Outcome {
     Refused(Refusal),
     Frame([u8; 40]),
     Parts(FrameParts),
+    Word(CodedWord),
+    Code(u8),
+    Groups([u8; 80]),
 }
 
 // What a frame holds, part by part.
@@ -17,4 +20,11 @@ pub struct FrameParts {
     pub fields: Fields,
     pub content: [u8; 32],
     pub syndrome: u16,
+}
+
+// A group on a line: its five bits and the Disparity Count behind it.
+#[derive(Clone, Copy)]
+pub struct CodedWord {
+    pub word: u8,
+    pub count: i8,
 }

@@ -6,6 +6,10 @@ ghost use Rattle.std.specs.Vec.{made};
 ghost use Rattle.sheet.specs.Lines.{silent, outcome-of};
 ghost use Rattle.sheet.specs.Print.{shown-line, line-print, closing, printed};
 
+use crate::coding::code_line;
+use crate::coding::decode_line;
+use crate::coding::lines_line;
+use crate::coding::unlines_line;
 use crate::lookups::fields_line;
 use crate::lookups::frame_line;
 use crate::outcome::Outcome;
@@ -36,6 +40,10 @@ fn outcome(heap: Global, words: &[&[u8]]) -> Result<Outcome, AllocError>
     match verb(first) {
         Verb::Frame => frame_line(heap, words),
         Verb::Fields => fields_line(heap, words),
+        Verb::Code => Ok(code_line(words)),
+        Verb::Decode => Ok(decode_line(words)),
+        Verb::Lines => lines_line(heap, words),
+        Verb::Unlines => unlines_line(heap, words),
         Verb::Unknown => Ok(Outcome::NotUnderstood),
     }
 }

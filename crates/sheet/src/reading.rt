@@ -1,10 +1,11 @@
 // The words of a line, and what they ask for.
 ghost use mathlib.Core.Path.{_≡_};
 ghost use mathlib.Core.List.{map};
-ghost use Rattle.sheet.specs.Lines.{says, verb-of, word-at, numbers-in};
+ghost use Rattle.sheet.specs.Lines.{says, verb-of, width-in, word-at, numbers-in};
 
 use crate::verb::Verb;
 use frame::Numbers;
+use line::Width;
 use text::bit;
 use text::hex4;
 use text::number;
@@ -24,8 +25,29 @@ pub(crate) fn verb(word: &[u8]) -> Verb
         Verb::Frame
     } else if is(word, "fields") {
         Verb::Fields
+    } else if is(word, "code") {
+        Verb::Code
+    } else if is(word, "decode") {
+        Verb::Decode
+    } else if is(word, "lines") {
+        Verb::Lines
+    } else if is(word, "unlines") {
+        Verb::Unlines
     } else {
         Verb::Unknown
+    }
+}
+
+// The width of a system of lines, by its word.
+pub(crate) fn width(word: &[u8]) -> Option<Width>
+    ensures { λ r. ⌜ r ≡ width-in (now (word .entry)) ⌝ }
+{
+    if is(word, "wide") {
+        Some(Width::Wide)
+    } else if is(word, "narrow") {
+        Some(Width::Narrow)
+    } else {
+        None
     }
 }
 

@@ -5,8 +5,9 @@ ghost use lib.Chars.{codes};
 ghost use Rattle.std.specs.Written.{decimal};
 ghost use Rattle.std.specs.declared.option.Option.the-variants.{Some};
 ghost use Rattle.text.specs.Hex.{hex-of};
-ghost use Rattle.sheet.specs.Shown.{shown-refusal, shown-numbers, shown-counts, shown-parts, shown-outcome};
+ghost use Rattle.sheet.specs.Shown.{shown-refusal, shown-numbers, shown-counts, shown-parts, shown-bits, shown-word, shown-outcome};
 
+use crate::outcome::CodedWord;
 use crate::outcome::FrameParts;
 use crate::outcome::Outcome;
 use frame::Fields;
@@ -78,6 +79,28 @@ impl fmt::Display for FrameParts as FramePartsDisplay {
     }
 }
 
+// Five bits, the highest first.
+#[derive(Clone, Copy)]
+struct Bits(u8);
+
+impl fmt::Display for Bits as BitsDisplay {
+    ghost shown = { λ x. Some (shown-bits (x .0)) };
+
+    fn fmt<W: fmt::Write>(&self, f: &mut fmt::Formatter<W>) -> fmt::Result {
+        let w = self.0;
+        write!(f, "{}{}{}{}{}", w / 16 % 2, w / 8 % 2, w / 4 % 2, w / 2 % 2, w % 2)
+    }
+}
+
+impl fmt::Display for CodedWord as CodedWordDisplay {
+    ghost shown = { λ x. Some (shown-word x) };
+
+    fn fmt<W: fmt::Write>(&self, f: &mut fmt::Formatter<W>) -> fmt::Result {
+        let count = self.count;
+        write!(f, "word {} count {count}", Bits(self.word))
+    }
+}
+
 pub impl fmt::Display for Outcome as OutcomeDisplay {
     ghost shown = { λ x. Some (shown-outcome x) };
 
@@ -88,6 +111,9 @@ pub impl fmt::Display for Outcome as OutcomeDisplay {
             Outcome::Refused(refusal) => write!(f, "{}", Named(*refusal)),
             Outcome::Frame(bytes) => write!(f, "frame {}", Hex(bytes)),
             Outcome::Parts(parts) => write!(f, "{parts}"),
+            Outcome::Word(word) => write!(f, "{word}"),
+            Outcome::Code(code) => write!(f, "code {code}"),
+            Outcome::Groups(groups) => write!(f, "lines {}", Hex(groups)),
         }
     }
 }

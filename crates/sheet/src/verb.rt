@@ -3,5 +3,9 @@
 pub enum Verb {
     Frame,
     Fields,
+    Code,
+    Decode,
+    Lines,
+    Unlines,
     Unknown,
 }
