@@ -5,7 +5,6 @@ ghost use Rattle.std.specs.Vec.{made};
 ghost use Rattle.line.specs.Code.{coded, decoding};
 ghost use Rattle.line.specs.Tables.{standard-rows};
 ghost use Rattle.sheet.specs.Lines.{word-outcome, code-of, groups-of, frame-in, code-line, decode-line, lines-line, unlines-line};
-
 use crate::outcome::CodedWord;
 use crate::outcome::Outcome;
 use crate::reading::width;

@@ -5,15 +5,14 @@ ghost use lib.ListN.{length};
 ghost use Rattle.std.specs.Vec.{made};
 ghost use Rattle.frame.specs.Codec.{or-else, frame-refusal};
 ghost use Rattle.sheet.specs.Lines.{made-frame, parts-in, parts-of, frame-line, fields-line};
-
 use crate::outcome::FrameParts;
 use crate::outcome::Outcome;
 use crate::reading::numbers_in;
 use crate::reading::word;
-use frame::syndrome;
 use frame::Fields;
 use frame::Numbers;
 use frame::Refusal;
+use frame::syndrome;
 use std::alloc::AllocError;
 use std::alloc::Global;
 use text::bytes;

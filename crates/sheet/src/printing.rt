@@ -5,7 +5,6 @@ ghost use Rattle.std.specs.Of.String.{string-bytes};
 ghost use Rattle.std.specs.Vec.{made};
 ghost use Rattle.sheet.specs.Lines.{silent, outcome-of};
 ghost use Rattle.sheet.specs.Print.{shown-line, line-print, closing, printed};
-
 use crate::coding::code_line;
 use crate::coding::decode_line;
 use crate::coding::lines_line;
@@ -72,7 +71,8 @@ fn put_line(heap: Global, out: &mut String, n: usize, line: &[u8]) -> Result<(),
 }
 
 // How the three ends stand when the sheet is over: nothing can be called yet.
-const CLOSING: &str = "a loaded 0 accepted 0 messages 0 Normal\nb loaded 0 accepted 0 messages 0 Normal\nc loaded 0 accepted 0 messages 0 Normal\n";
+const CLOSING: &str =
+    "a loaded 0 accepted 0 messages 0 Normal\nb loaded 0 accepted 0 messages 0 Normal\nc loaded 0 accepted 0 messages 0 Normal\n";
 
 // The print of a sheet.
 pub fn replay(heap: Global, sheet: &[u8]) -> Result<String, AllocError>

@@ -2,7 +2,6 @@
 ghost use mathlib.Core.Path.{_≡_};
 ghost use mathlib.Core.List.{map};
 ghost use Rattle.sheet.specs.Lines.{says, verb-of, width-in, word-at, numbers-in};
-
 use crate::verb::Verb;
 use frame::Numbers;
 use line::Width;

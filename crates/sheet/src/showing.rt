@@ -6,7 +6,6 @@ ghost use Rattle.std.specs.Written.{decimal};
 ghost use Rattle.std.specs.declared.option.Option.the-variants.{Some};
 ghost use Rattle.text.specs.Hex.{hex-of};
 ghost use Rattle.sheet.specs.Shown.{shown-refusal, shown-numbers, shown-counts, shown-parts, shown-bits, shown-word, shown-outcome};
-
 use crate::outcome::CodedWord;
 use crate::outcome::FrameParts;
 use crate::outcome::Outcome;
@@ -47,7 +46,10 @@ impl fmt::Display for FieldNumbers as FieldNumbersDisplay {
         let error = fields.error as u8;
         let vcr = fields.vcr.number();
         let cr = fields.cr;
-        write!(f, "vc {vc} type {kind} tail {tail} error {error} vcr {vcr} cr {cr}")
+        write!(
+            f,
+            "vc {vc} type {kind} tail {tail} error {error} vcr {vcr} cr {cr}"
+        )
     }
 }
 
@@ -88,7 +90,15 @@ impl fmt::Display for Bits as BitsDisplay {
 
     fn fmt<W: fmt::Write>(&self, f: &mut fmt::Formatter<W>) -> fmt::Result {
         let w = self.0;
-        write!(f, "{}{}{}{}{}", w / 16 % 2, w / 8 % 2, w / 4 % 2, w / 2 % 2, w % 2)
+        write!(
+            f,
+            "{}{}{}{}{}",
+            w / 16 % 2,
+            w / 8 % 2,
+            w / 4 % 2,
+            w / 2 % 2,
+            w % 2
+        )
     }
 }
 
