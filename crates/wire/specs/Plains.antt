@@ -7,6 +7,7 @@ use lib.Dec.{eqb, ltb}
 use lib.ListN.{length}
 use Rattle.ring.specs.Items.{ring-items, ring-cap}
 use Rattle.wire.specs.declared.plain.PlainWire.{PlainWire}
+use Rattle.wire.specs.Wires.{frame-size}
 
 -- the frames under way
 abbrev pub plain-frames : PlainWire → List (List ℕ)
@@ -22,7 +23,7 @@ kept room xs x = cond (ltb (length xs) room) (xs ++ (x ∷ [])) xs
 
 -- a put keeps the frame where there is room, and the room stays
 pub record plain-puts (before : PlainWire) (frame : List ℕ) (after : PlainWire) : Type 0 where
-  pub frames : plain-frames after ≡ cond (eqb (length frame) 40) (kept (plain-room before) (plain-frames before) frame) (plain-frames before)
+  pub frames : plain-frames after ≡ cond (eqb (length frame) frame-size) (kept (plain-room before) (plain-frames before) frame) (plain-frames before)
   pub room : plain-room after ≡ plain-room before
 
 abbrev pub plain-takes : PlainWire → PlainWire → Type 0

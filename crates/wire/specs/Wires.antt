@@ -11,9 +11,13 @@ use Rattle.frame.specs.Checks.{syndrome-of}
 use Rattle.wire.specs.declared.arrival.Arrival.{Arrival}
 use Rattle.wire.specs.declared.arrival.Arrival.the-variants.{Frame, Nothing}
 
--- the bytes of a frame
+-- how many bytes a frame has
+abbrev pub frame-size : ℕ
+frame-size = 40
+
+-- as many bytes as a frame has
 abbrev pub Whole : List ℕ → Type 0
-Whole frame = length frame ≡ 40
+Whole bytes = length bytes ≡ frame-size
 
 -- a frame is put on: the list stays, always where the frame is refused, or gains the frame last, or gains last a
 -- frame's bytes that do not pass the link check

@@ -1,6 +1,8 @@
 // What carries frames between two ends, and may lose or damage them.
 mod arrival;
 mod emptying;
+mod fate;
+mod fault;
 mod frames;
 mod plain;
 mod wire_trait;
@@ -9,6 +11,9 @@ pub use arrival::Arrival;
 pub use arrival::ArrivalDebug;
 pub use arrival::ArrivalPartialEq;
 pub use emptying::drain;
+pub use fate::Fate;
+pub use fault::Fault;
+pub use fault::FaultIs;
 pub use frames::FRAME_SIZE;
 pub use frames::FrameBytes;
 pub use plain::PlainWire;
