@@ -1,3 +1,5 @@
 pub mod Wires
+pub mod Kept
 pub mod Plains
+pub mod Lines
 pub mod Fates

@@ -2,12 +2,13 @@
 use Prim.Native.Nat.{ℕ}
 use mathlib.Core.Path.{_≡_}
 use mathlib.Core.Bool.{cond}
-use mathlib.Core.List.{List, [], _∷_, _++_}
-use lib.Dec.{eqb, ltb}
+use mathlib.Core.List.{List}
+use lib.Dec.{eqb}
 use lib.ListN.{length}
 use Rattle.ring.specs.Items.{ring-items, ring-cap}
 use Rattle.wire.specs.declared.plain.PlainWire.{PlainWire}
 use Rattle.wire.specs.Wires.{frame-size}
+use Rattle.wire.specs.Kept.{kept}
 
 -- the frames under way
 abbrev pub plain-frames : PlainWire → List (List ℕ)
@@ -16,10 +17,6 @@ plain-frames w = ring-items (w .queue)
 -- how many it can hold
 abbrev pub plain-room : PlainWire → ℕ
 plain-room w = ring-cap (w .queue)
-
--- a list that gains an element last, while it has fewer than there is room for
-abbrev pub kept : {X : Type 0} → ℕ → List X → X → List X
-kept room xs x = cond (ltb (length xs) room) (xs ++ (x ∷ [])) xs
 
 -- a put keeps the frame where there is room, and the room stays
 pub record plain-puts (before : PlainWire) (frame : List ℕ) (after : PlainWire) : Type 0 where

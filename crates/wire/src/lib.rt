@@ -4,6 +4,7 @@ mod emptying;
 mod fate;
 mod fault;
 mod frames;
+mod lines;
 mod plain;
 mod wire_trait;
 
@@ -16,6 +17,10 @@ pub use fault::Fault;
 pub use fault::FaultIs;
 pub use frames::FRAME_SIZE;
 pub use frames::FrameBytes;
+pub use lines::LINE_PLACES;
+pub use lines::LineGroups;
+pub use lines::LineWire;
+pub use lines::LineWireIs;
 pub use plain::PlainWire;
 pub use plain::PlainWireIs;
 pub use wire_trait::Wire;
