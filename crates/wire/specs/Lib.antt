@@ -3,3 +3,4 @@ pub mod Kept
 pub mod Plains
 pub mod Lines
 pub mod Fates
+pub mod Anys

@@ -1,4 +1,5 @@
 // What carries frames between two ends, and may lose or damage them.
+mod any;
 mod arrival;
 mod emptying;
 mod fate;
@@ -8,11 +9,15 @@ mod lines;
 mod plain;
 mod wire_trait;
 
+pub use any::AnyWire;
+pub use any::AnyWireIs;
 pub use arrival::Arrival;
 pub use arrival::ArrivalDebug;
 pub use arrival::ArrivalPartialEq;
 pub use emptying::drain;
 pub use fate::Fate;
+pub use fate::FateDebug;
+pub use fate::FatePartialEq;
 pub use fault::Fault;
 pub use fault::FaultIs;
 pub use frames::FRAME_SIZE;
