@@ -1,5 +1,5 @@
 -- The fault layer: what becomes of a frame that is put on.
-use Prim.Native.Nat.{ℕ}
+use Prim.Native.Nat.{ℕ, _*_}
 use mathlib.Core.Path.{_≡_}
 use mathlib.Core.Bool.{cond}
 use mathlib.Core.List.{List}
@@ -28,7 +28,7 @@ next-fate fates = getD fates 0 Pass
 
 -- a frame with bit n turned over, where there is such a bit and the frame was good: any other passes
 abbrev pub damaged : ℕ → List ℕ → List ℕ
-damaged n frame = cond (ltb n 320) (cond (eqb (syndrome-of frame) 0) (flipped frame n) frame) frame
+damaged n frame = cond (ltb n (8 * frame-size)) (cond (eqb (syndrome-of frame) 0) (flipped frame n) frame) frame
 
 -- what a fate makes of a frame: none where it is lost
 abbrev pub struck : Fate → List ℕ → Option (List ℕ)

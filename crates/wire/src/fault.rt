@@ -1,13 +1,15 @@
 // A layer over any wire that loses or damages what is put, as a list of fates says.
 ghost use mathlib.Core.Path.{_≡_};
-ghost use Prim.Native.Nat.{_<_};
+ghost use Prim.Native.Nat.{_*_, _<_};
 ghost use lib.Dec.{eqb};
 ghost use lib.ListN.{length, take, drop};
 ghost use Rattle.crc.specs.Laws.{flipped};
 ghost use Rattle.frame.specs.Checks.{syndrome-of};
 ghost use Rattle.wire.specs.Fates.{fates-left, next-fate, damaged, struck, fault-puts, fault-takes};
+ghost use Rattle.wire.specs.Wires.{frame-size};
 use crate::arrival::Arrival;
 use crate::fate::Fate;
+use crate::frames::FRAME_SIZE;
 use crate::frames::FrameBytes;
 use crate::frames::copied;
 use crate::wire_trait::Wire;
@@ -18,7 +20,7 @@ use frame::syndrome;
 const FATES: usize = 64;
 
 // How many bits a frame has.
-const FRAME_BITS: u64 = 320;
+const FRAME_BITS: u64 = 8 * FRAME_SIZE as u64;
 
 // The wire below, the fates, and how many of them are spent.
 #[derive(Drop)]
@@ -68,7 +70,7 @@ fn is_good(frame: &FrameBytes) -> bool
 
 // A frame with one bit turned over.
 fn turned_over(frame: FrameBytes, n: u64) -> FrameBytes
-    requires { ⌜ n < 320 ⌝ }
+    requires { ⌜ n < 8 * frame-size ⌝ }
     ensures { λ r. ⌜ r ≡ flipped frame n ⌝ }
 {
     let mut bytes = frame;

@@ -22,6 +22,7 @@ pub use fault::Fault;
 pub use fault::FaultIs;
 pub use frames::FRAME_SIZE;
 pub use frames::FrameBytes;
+pub use lines::GROUPS_SIZE;
 pub use lines::LINE_PLACES;
 pub use lines::LineGroups;
 pub use lines::LineWire;
@@ -29,3 +30,6 @@ pub use lines::LineWireIs;
 pub use plain::PlainWire;
 pub use plain::PlainWireIs;
 pub use wire_trait::Wire;
+
+#[cfg(test)]
+mod tests;

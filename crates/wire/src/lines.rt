@@ -18,11 +18,11 @@ use ring::Ring;
 // How many frames a line wire holds.
 pub const LINE_PLACES: usize = 16;
 
-// How many groups a frame goes out as.
-const GROUPS: usize = 80;
+// How many groups a frame goes out as: two to a byte.
+pub const GROUPS_SIZE: usize = 2 * FRAME_SIZE;
 
 // The groups of one frame, a byte each.
-pub type LineGroups = [u8; GROUPS];
+pub type LineGroups = [u8; GROUPS_SIZE];
 
 // Holds 16 frames as groups, loses only what is put when it is full, and keeps the running count of every line.
 #[derive(Drop)]
@@ -82,7 +82,7 @@ pub impl<'a> Wire for LineWire<'a> as LineWireIs {
 
     fn put(&mut self, frame: &[u8]) -> Result<(), Refusal> {
         let bytes = copied(frame)?;
-        let mut groups = [0u8; GROUPS];
+        let mut groups = [0u8; GROUPS_SIZE];
         let counts = code(self.counts, &bytes, &mut groups);
         if self.queue.push_back(groups) {
             self.counts = counts;
