@@ -1,0 +1,3 @@
+mod Fated
+mod Outgoing
+mod Queues
