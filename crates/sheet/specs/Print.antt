@@ -5,7 +5,7 @@ use lib.Chars.{codes}
 use Rattle.std.specs.Written.{decimal}
 use Rattle.text.specs.Pieces.{lines-of, words-of}
 use Rattle.sheet.specs.declared.outcome.Outcome.{Outcome}
-use Rattle.sheet.specs.declared.outcome.Outcome.the-variants.{Silent, NotUnderstood, Refused, Frame, Parts, Word, Code, Groups}
+use Rattle.sheet.specs.declared.outcome.Outcome.the-variants.{Silent, NotUnderstood, Refused, Frame, Parts, Word, Code, Groups, TooLate, Put, Next, Nothing}
 use Rattle.sheet.specs.Lines.{outcome-of}
 use Rattle.sheet.specs.Shown.{shown-outcome}
 
@@ -23,6 +23,10 @@ shown-line n (Parts p) = numbered n (shown-outcome (Parts p))
 shown-line n (Word c) = numbered n (shown-outcome (Word c))
 shown-line n (Code code) = numbered n (shown-outcome (Code code))
 shown-line n (Groups bytes) = numbered n (shown-outcome (Groups bytes))
+shown-line n TooLate = numbered n (shown-outcome TooLate)
+shown-line n Put = numbered n (shown-outcome Put)
+shown-line n (Next bytes) = numbered n (shown-outcome (Next bytes))
+shown-line n Nothing = numbered n (shown-outcome Nothing)
 
 -- line n of a sheet
 unfoldable pub line-print : ℕ → List ℕ → List ℕ

@@ -10,7 +10,7 @@ use Rattle.frame.specs.Naming.{type-of, channel-number}
 use Rattle.frame.specs.Refusals.{number-of, name-of}
 use Rattle.text.specs.Hex.{hex-of, shown-hex4}
 use Rattle.sheet.specs.declared.outcome.Outcome.{Outcome}
-use Rattle.sheet.specs.declared.outcome.Outcome.the-variants.{Silent, NotUnderstood, Refused, Frame, Parts, Word, Code, Groups}
+use Rattle.sheet.specs.declared.outcome.Outcome.the-variants.{Silent, NotUnderstood, Refused, Frame, Parts, Word, Code, Groups, TooLate, Put, Next, Nothing}
 use Rattle.sheet.specs.declared.outcome.CodedWord.{CodedWord}
 use Rattle.sheet.specs.declared.outcome.FrameParts.{FrameParts}
 
@@ -64,3 +64,7 @@ shown-outcome (Parts p) = shown-parts p
 shown-outcome (Word c) = shown-word c
 shown-outcome (Code code) = codes "code " ++ decimal code
 shown-outcome (Groups bytes) = codes "lines " ++ hex-of bytes
+shown-outcome TooLate = codes "too late"
+shown-outcome Put = codes "put"
+shown-outcome (Next bytes) = codes "next " ++ hex-of bytes
+shown-outcome Nothing = codes "nothing"

@@ -1,5 +1,6 @@
 // A sheet's bytes to its print.
 mod coding;
+mod desk;
 mod lookups;
 mod outcome;
 mod printing;

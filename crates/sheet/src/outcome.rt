@@ -12,6 +12,10 @@ pub enum Outcome {
     Word(CodedWord),
     Code(u8),
     Groups([u8; 80]),
+    TooLate,
+    Put,
+    Next([u8; 40]),
+    Nothing,
 }
 
 // What a frame holds, part by part.

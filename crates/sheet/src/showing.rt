@@ -124,6 +124,10 @@ pub impl fmt::Display for Outcome as OutcomeDisplay {
             Outcome::Word(word) => write!(f, "{word}"),
             Outcome::Code(code) => write!(f, "code {code}"),
             Outcome::Groups(groups) => write!(f, "lines {}", Hex(groups)),
+            Outcome::TooLate => f.write_str("too late"),
+            Outcome::Put => f.write_str("put"),
+            Outcome::Next(bytes) => write!(f, "next {}", Hex(bytes)),
+            Outcome::Nothing => f.write_str("nothing"),
         }
     }
 }
