@@ -1,10 +1,12 @@
 // A sheet's bytes to its print.
+mod asking;
 mod coding;
 mod desk;
 mod lookups;
 mod outcome;
 mod printing;
 mod reading;
+mod request;
 mod showing;
 mod verb;
 

@@ -10,7 +10,7 @@ use text::hex4;
 use text::number;
 
 // Whether a word is this one.
-fn is(word: &[u8], text: &str) -> bool
+pub(crate) fn is(word: &[u8], text: &str) -> bool
     ensures { λ r. ⌜ r ≡ says (now (word .entry)) (now (text .entry)) ⌝ }
 {
     word == text.as_bytes()
