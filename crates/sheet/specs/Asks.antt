@@ -94,3 +94,20 @@ unfoldable pub call-line : List (List ℕ) → Ask
 call-line ws =
     cond (says (word-at ws 1) (codes "put")) (put-line ws)
     (cond (says (word-at ws 1) (codes "next")) (cond (eqb (length ws) 2) nexts (shows NotUnderstood)) (shows NotUnderstood))
+
+-- a line by its first word
+abbrev pub by-verb : Verb → List (List ℕ) → Ask
+by-verb verbs.Frame ws = shows (frame-line ws)
+by-verb verbs.Fields ws = shows (fields-line ws)
+by-verb verbs.Code ws = shows (code-line ws)
+by-verb verbs.Decode ws = shows (decode-line ws)
+by-verb verbs.Lines ws = shows (lines-line ws)
+by-verb verbs.Unlines ws = shows (unlines-line ws)
+by-verb verbs.Wire ws = wire-line ws
+by-verb verbs.Fates ws = fates-line ws
+by-verb verbs.CallW ws = call-line ws
+by-verb verbs.Unknown ws = shows NotUnderstood
+
+-- what a line asks for, by its words
+abbrev pub asked : List (List ℕ) → Ask
+asked ws = cond (silent (word-at ws 0)) (shows Silent) (by-verb (verb-of (word-at ws 0)) ws)

@@ -1,5 +1,5 @@
 pub mod Shown
 pub mod Lines
-pub mod Print
-pub mod Desk
 pub mod Asks
+pub mod Desk
+pub mod Print

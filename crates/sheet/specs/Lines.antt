@@ -44,7 +44,10 @@ verb-of word =
     (cond (says word (codes "code")) verbs.Code
     (cond (says word (codes "decode")) verbs.Decode
     (cond (says word (codes "lines")) verbs.Lines
-    (cond (says word (codes "unlines")) verbs.Unlines verbs.Unknown)))))
+    (cond (says word (codes "unlines")) verbs.Unlines
+    (cond (says word (codes "wire")) verbs.Wire
+    (cond (says word (codes "fates")) verbs.Fates
+    (cond (says word (codes "w")) verbs.CallW verbs.Unknown))))))))
 
 -- a width by its word
 abbrev pub width-in : List ℕ → Option Width
@@ -162,20 +165,6 @@ unlines-outcome (Some w) (Some bytes) = frame-in w bytes
 unfoldable pub unlines-line : List (List ℕ) → Outcome
 unlines-line ws = cond (eqb (length ws) 3) (unlines-outcome (width-in (word-at ws 1)) (bytes-of (word-at ws 2))) NotUnderstood
 
--- a line by its first word
-abbrev pub by-verb : Verb → List (List ℕ) → Outcome
-by-verb verbs.Frame ws = frame-line ws
-by-verb verbs.Fields ws = fields-line ws
-by-verb verbs.Code ws = code-line ws
-by-verb verbs.Decode ws = decode-line ws
-by-verb verbs.Lines ws = lines-line ws
-by-verb verbs.Unlines ws = unlines-line ws
-by-verb verbs.Unknown ws = NotUnderstood
-
 -- a line with no word (words are never empty), or whose first word begins with a hash sign, is silent
 abbrev pub silent : List ℕ → Bool
 silent first = eqb (length first) 0 || eqb (getD first 0 0) 35
-
--- what a line does, by its words
-abbrev pub outcome-of : List (List ℕ) → Outcome
-outcome-of ws = cond (silent (word-at ws 0)) Silent (by-verb (verb-of (word-at ws 0)) ws)

@@ -6,7 +6,8 @@ use Rattle.std.specs.Written.{decimal}
 use Rattle.text.specs.Pieces.{lines-of, words-of}
 use Rattle.sheet.specs.declared.outcome.Outcome.{Outcome}
 use Rattle.sheet.specs.declared.outcome.Outcome.the-variants.{Silent, NotUnderstood, Refused, Frame, Parts, Word, Code, Groups, TooLate, Put, Next, Nothing}
-use Rattle.sheet.specs.Lines.{outcome-of}
+use Rattle.sheet.specs.Asks.{asked}
+use Rattle.sheet.specs.Desk.{World, new-world, after-ask, outcome-in}
 use Rattle.sheet.specs.Shown.{shown-outcome}
 
 -- a line's number, what it did, and a line feed
@@ -28,14 +29,18 @@ shown-line n Put = numbered n (shown-outcome Put)
 shown-line n (Next bytes) = numbered n (shown-outcome (Next bytes))
 shown-line n Nothing = numbered n (shown-outcome Nothing)
 
--- line n of a sheet
-unfoldable pub line-print : ℕ → List ℕ → List ℕ
-line-print n line = shown-line n (outcome-of (words-of line))
+-- what line n prints in a world
+abbrev pub line-print : ℕ → World → List ℕ → List ℕ
+line-print n world line = shown-line n (outcome-in world (asked (words-of line)))
 
--- lines from number n on
-unfoldable pub prints-from : ℕ → List (List ℕ) → List ℕ
-prints-from n [] = []
-prints-from n (l ∷ ls) = line-print n l ++ prints-from (n + 1) ls
+-- the world behind a line
+abbrev pub world-after : World → List ℕ → World
+world-after world line = after-ask world (asked (words-of line))
+
+-- lines from number n on, in a world
+unfoldable pub prints-from : ℕ → World → List (List ℕ) → List ℕ
+prints-from n world [] = []
+prints-from n world (l ∷ ls) = line-print n world l ++ prints-from (n + 1) (world-after world l) ls
 
 -- how each of the three ends stands when the sheet is over: nothing can be called yet
 unfoldable pub closing : List ℕ
@@ -43,4 +48,4 @@ closing = codes "a loaded 0 accepted 0 messages 0 Normal\nb loaded 0 accepted 0 
 
 -- the whole print
 unfoldable pub printed : List ℕ → List ℕ
-printed sheet = prints-from 1 (lines-of sheet) ++ closing
+printed sheet = prints-from 1 new-world (lines-of sheet) ++ closing

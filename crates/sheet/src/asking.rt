@@ -4,19 +4,30 @@ ghost use mathlib.Core.List.{map};
 ghost use Rattle.std.specs.Of.Vec.{vec-items};
 ghost use Rattle.std.specs.Options.{mapped};
 ghost use Rattle.std.specs.Vec.{made};
-ghost use Rattle.sheet.specs.Asks.{ask-of, kind-in, wire-line, fate-word, fates-in, fates-line, put-line, call-line};
+ghost use Rattle.sheet.specs.Asks.{ask-of, kind-in, wire-line, fate-word, fates-in, fates-line, put-line, call-line, asked};
+ghost use Rattle.sheet.specs.Lines.{silent};
+ghost use Rattle.text.specs.Pieces.{words-of};
 
+use crate::coding::code_line;
+use crate::coding::decode_line;
+use crate::coding::lines_line;
+use crate::coding::unlines_line;
+use crate::lookups::fields_line;
+use crate::lookups::frame_line;
 use crate::outcome::Outcome;
 use crate::reading::is;
+use crate::reading::verb;
 use crate::reading::word;
 use crate::request::FateWord;
 use crate::request::Request;
 use crate::request::WireKind;
+use crate::verb::Verb;
 use std::alloc::AllocError;
 use std::alloc::Global;
 use text::bytes;
 use text::count;
 use text::number;
+use text::words;
 use wire::Fate;
 
 // `plain COUNT`, `wide` or `narrow`, from word 2 on.
@@ -131,4 +142,41 @@ fn fates_line(heap: Global, words: &[&[u8]]) -> Result<Request, AllocError>
         Some(fates) => Ok(Request::FatesAre(fates)),
         None => Ok(Request::Shows(Outcome::NotUnderstood)),
     }
+}
+
+// A line with no word, and one whose first word begins with a hash sign, do nothing.
+fn is_silent(first: &[u8]) -> bool
+    ensures { λ r. ⌜ r ≡ silent (now (first .entry)) ⌝ }
+{
+    first.is_empty() || first[0] == b'#'
+}
+
+// What a line asks for, by its words.
+fn request_in(heap: Global, words: &[&[u8]]) -> Result<Request, AllocError>
+    ensures { λ r. ⌜ made r (λ q. ask-of q ≡ asked (map now (now (words .entry)))) ⌝ }
+{
+    let first = word(words, 0);
+    if is_silent(first) {
+        return Ok(Request::Shows(Outcome::Silent));
+    }
+    match verb(first) {
+        Verb::Frame => Ok(Request::Shows(frame_line(heap, words)?)),
+        Verb::Fields => Ok(Request::Shows(fields_line(heap, words)?)),
+        Verb::Code => Ok(Request::Shows(code_line(words))),
+        Verb::Decode => Ok(Request::Shows(decode_line(words))),
+        Verb::Lines => Ok(Request::Shows(lines_line(heap, words)?)),
+        Verb::Unlines => Ok(Request::Shows(unlines_line(heap, words)?)),
+        Verb::Wire => Ok(wire_line(words)),
+        Verb::Fates => fates_line(heap, words),
+        Verb::CallW => call_line(heap, words),
+        Verb::Unknown => Ok(Request::Shows(Outcome::NotUnderstood)),
+    }
+}
+
+// What a line asks for.
+pub(crate) fn request(heap: Global, line: &[u8]) -> Result<Request, AllocError>
+    ensures { λ r. ⌜ made r (λ q. ask-of q ≡ asked (words-of (now (line .entry)))) ⌝ }
+{
+    let words = words(heap, line)?;
+    request_in(heap, &words)
 }

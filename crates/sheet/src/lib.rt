@@ -7,7 +7,7 @@ mod outcome;
 mod printing;
 mod reading;
 mod request;
+mod running;
 mod showing;
 mod verb;
 
-pub use printing::replay;

@@ -32,6 +32,12 @@ pub(crate) fn verb(word: &[u8]) -> Verb
         Verb::Lines
     } else if is(word, "unlines") {
         Verb::Unlines
+    } else if is(word, "wire") {
+        Verb::Wire
+    } else if is(word, "fates") {
+        Verb::Fates
+    } else if is(word, "w") {
+        Verb::CallW
     } else {
         Verb::Unknown
     }

@@ -27,3 +27,10 @@ pub enum FateWord {
     Is(Fate),
     Unknown,
 }
+
+// What the declarations of a sheet say so far.
+#[derive(Drop)]
+pub struct Setup {
+    pub wire: WireKind,
+    pub fates: Vec<Fate>,
+}

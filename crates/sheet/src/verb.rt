@@ -7,5 +7,8 @@ pub enum Verb {
     Decode,
     Lines,
     Unlines,
+    Wire,
+    Fates,
+    CallW,
     Unknown,
 }
