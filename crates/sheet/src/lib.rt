@@ -11,3 +11,5 @@ mod running;
 mod showing;
 mod verb;
 
+pub use running::replay;
+
