@@ -29,11 +29,11 @@ kept-map f room xs x = elim (cases-bool (ltb (length xs) room)) [
 
 -- a frame goes out as groups, these are pushed, and the counts move on where there was room
 module _
-  (before after : LineWire) (frame groups : List ℕ) (counts : Counts) (whole : Whole frame)
-  (coded : Coded (before .counts) frame groups counts) (room : Bool)
-  (test : room ≡ ltb (length (line-groups before)) (line-room before))
-  (items : line-groups after ≡ cond room (line-groups before ++ (groups ∷ [])) (line-groups before))
-  (moved : after .counts ≡ cond room counts (before .counts)) where
+    (before after : LineWire) (frame groups : List ℕ) (counts : Counts) (whole : Whole frame)
+    (coded : Coded (before .counts) frame groups counts) (room : Bool)
+    (test : room ≡ ltb (length (line-groups before)) (line-room before))
+    (items : line-groups after ≡ cond room (line-groups before ++ (groups ∷ [])) (line-groups before))
+    (moved : after .counts ≡ cond room counts (before .counts)) where
   pushed : line-groups after ≡ kept (line-room before) (line-groups before) groups
   pushed = items ∙ ap (λ b. cond b (line-groups before ++ (groups ∷ [])) (line-groups before)) test
 
