@@ -50,21 +50,21 @@ module _ (counts : Counts) (frame start : List ℕ) (size : length frame ≡ 40)
       let g : eqb (length start) 80 ≡ true = eq-eqb _ _ wide in
       elim (cases-bool (all in-range (counts-of counts))) [
         | inl t ↦ (
-          let run : running counts ≡ counts = running-same counts t in
-          let e' : Ok after ≡ Ok (with-counts counts (coded-counts counts frame)) = rw (f, g, t) at e in
-          let s' : groups ≡ coded-groups counts frame = rw (f, g, t) at s in
-          let is : after ≡ with-counts counts (coded-counts counts frame) = cc in
-          record {
-            out = rw run s';
-            moved = rw run is;
-            back = b (replicate 40 0) refl .1;
-            width = ap width-of is ∙ width-with counts (coded-counts counts frame);
-          })
+            let run : running counts ≡ counts = running-same counts t in
+            let e' : Ok after ≡ Ok (with-counts counts (coded-counts counts frame)) = rw (f, g, t) at e in
+            let s' : groups ≡ coded-groups counts frame = rw (f, g, t) at s in
+            let is : after ≡ with-counts counts (coded-counts counts frame) = cc in
+            record {
+              out = rw run s';
+              moved = rw run is;
+              back = b (replicate 40 0) refl .1;
+              width = ap width-of is ∙ width-with counts (coded-counts counts frame);
+            })
         | inr t ↦ (
-          let e' : Ok after ≡ Err _ = rw (f, g, t) at e in
-          let z : _≡_ {A = ℕ} 0 1 = cc in
-          let none : ⊥ = omega arith in
-          absurd none)
+            let e' : Ok after ≡ Err _ = rw (f, g, t) at e in
+            let z : _≡_ {A = ℕ} 0 1 = cc in
+            let none : ⊥ = omega arith in
+            absurd none)
       ]
 
   -- one that did not was to go out from counts that no line comes to, and goes out as if all were 0
@@ -75,16 +75,16 @@ module _ (counts : Counts) (frame start : List ℕ) (size : length frame ≡ 40)
       let g : eqb (length start) 80 ≡ true = eq-eqb _ _ wide in
       elim (cases-bool (all in-range (counts-of counts))) [
         | inl t ↦ (
-          let e' : Err why ≡ Ok _ = rw (f, g, t) at e in
-          let z : _≡_ {A = ℕ} 0 1 = cc in
-          let none : ⊥ = omega arith in
-          absurd none)
+            let e' : Err why ≡ Ok _ = rw (f, g, t) at e in
+            let z : _≡_ {A = ℕ} 0 1 = cc in
+            let none : ⊥ = omega arith in
+            absurd none)
         | inr t ↦ (
-          let run : running (fresh (width-of counts)) ≡ running counts = running-fresh (width-of counts) ∙ sym (running-off counts t) in
-          record {
-            out = rw run at (w .out);
-            moved = rw run at (w .moved);
-            back = rw (width-fresh (width-of counts)) at (w .back);
-            width = w .width ∙ width-fresh (width-of counts);
-          })
+            let run : running (fresh (width-of counts)) ≡ running counts = running-fresh (width-of counts) ∙ sym (running-off counts t) in
+            record {
+              out = rw run at (w .out);
+              moved = rw run at (w .moved);
+              back = rw (width-fresh (width-of counts)) at (w .back);
+              width = w .width ∙ width-fresh (width-of counts);
+            })
       ]

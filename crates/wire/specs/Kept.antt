@@ -1,10 +1,15 @@
--- What a queue of limited room keeps of what is put into it.
+-- What a wire of limited room keeps.
 use Prim.Native.Nat.{ℕ}
-use mathlib.Core.Bool.{cond}
+use mathlib.Core.Bool.{Bool, false, cond}
 use mathlib.Core.List.{List, [], _∷_, _++_}
-use lib.Dec.{ltb}
+use lib.Dec.{eqb, ltb}
 use lib.ListN.{length}
+use Rattle.wire.specs.Wires.{frame-size}
 
--- a list gains an element last while it has fewer than there is room for, and else stays
-abbrev pub kept : {X : Type 0} → ℕ → List X → X → List X
-kept room xs x = cond (ltb (length xs) room) (xs ++ (x ∷ [])) xs
+-- whether a frame is kept: it has a frame's size, and fewer frames are under way than there is room for
+abbrev pub keeps : ℕ → List (List ℕ) → List ℕ → Bool
+keeps room frames frame = cond (eqb (length frame) frame-size) (ltb (length frames) room) false
+
+-- a list that gains an element last, or stays
+abbrev pub gained : {X : Type 0} → Bool → List X → X → List X
+gained kept xs x = cond kept (xs ++ (x ∷ [])) xs

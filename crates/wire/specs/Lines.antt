@@ -1,10 +1,9 @@
 -- The line wire, which holds frames as groups.
 use Prim.Native.Nat.{ℕ}
 use mathlib.Core.Path.{_≡_}
-use mathlib.Core.Bool.{Bool, false, cond}
+use mathlib.Core.Bool.{Bool, cond}
 use mathlib.Core.List.{List, map}
-use lib.Dec.{eqb, ltb}
-use lib.ListN.{length, replicate}
+use lib.ListN.{replicate}
 use Rattle.line.specs.declared.counts.Counts.{Counts}
 use Rattle.line.specs.declared.width.Width.{Width}
 use Rattle.line.specs.Code.{in-range}
@@ -12,7 +11,7 @@ use Rattle.line.specs.Groups.{all, counts-of, width-of, with-counts, fresh, cod
 use Rattle.ring.specs.Items.{ring-items, ring-cap}
 use Rattle.wire.specs.declared.lines.LineWire.{LineWire}
 use Rattle.wire.specs.Wires.{frame-size}
-use Rattle.wire.specs.Kept.{kept}
+use Rattle.wire.specs.Kept.{keeps, gained}
 
 -- the frame that groups carry; zeros for what is no 80 groups of five bits, so that every wire has a meaning
 unfoldable pub carried : Width → List ℕ → List ℕ
@@ -51,14 +50,14 @@ line-frames w = map (carried (line-width w)) (line-groups w)
 abbrev pub line-room : LineWire → ℕ
 line-room w = ring-cap (w .queue)
 
--- whether a frame is kept: it has a frame's size, and there is room
+-- whether a frame is kept
 abbrev pub line-keeps : LineWire → List ℕ → Bool
-line-keeps w frame = cond (eqb (length frame) frame-size) (ltb (length (line-groups w)) (line-room w)) false
+line-keeps w frame = keeps (line-room w) (line-frames w) frame
 
 -- a put keeps the frame where there is room, as groups that go out from the running counts, and these move on
 pub record line-puts (before : LineWire) (frame : List ℕ) (after : LineWire) : Type 0 where
-  pub frames : line-frames after ≡ cond (eqb (length frame) frame-size) (kept (line-room before) (line-frames before) frame) (line-frames before)
-  pub groups : line-groups after ≡ cond (eqb (length frame) frame-size) (kept (line-room before) (line-groups before) (groups-out (before .counts) frame)) (line-groups before)
+  pub frames : line-frames after ≡ gained (line-keeps before frame) (line-frames before) frame
+  pub groups : line-groups after ≡ gained (line-keeps before frame) (line-groups before) (groups-out (before .counts) frame)
   pub counts : after .counts ≡ cond (line-keeps before frame) (counts-out (before .counts) frame) (before .counts)
   pub room : line-room after ≡ line-room before
 

@@ -25,6 +25,7 @@ use std::test::*;
 const HEADER: FrameBytes =
     *b"\x0a\x0b\x0c\x0d\x0e\x0f\x01\x02\x03\x04\x05\x06\x00\x00\x00\x11\xaa\xaa\x03\x00\
     \x00\x00\x81\x81\x00\x11\x22\x33\x44\x55\x66\x77\xeb\x3d\x7d\x47\x00\x00\x08\x24";
+
 const CREDIT: FrameBytes =
     *b"\x00\x00\x00\x00\x00\x00\x00\x00\x00\x00\x00\x00\x00\x00\x00\x00\x00\x00\x00\x00\
     \x00\x00\x00\x00\x00\x00\x00\x00\x00\x00\x00\x00\x3c\xbc\x58\x97\x02\x00\x0a\x28";
@@ -99,7 +100,10 @@ fn no_places() -> Result<(), Fail> {
 fn fates_in_turn() -> Result<(), Fail> {
     let fates = [Fate::Pass, Fate::Lose, Fate::Flip(13), Fate::Flip(320)];
     let mut area = [[0u8; GROUPS_SIZE]; LINE_PLACES];
-    let mut wire = Fault::new(AnyWire::Line(LineWire::new(Width::Narrow, &mut area)), &fates);
+    let mut wire = Fault::new(
+        AnyWire::Line(LineWire::new(Width::Narrow, &mut area)),
+        &fates,
+    );
     expect(&mut wire, None)?;
     check(wire.put(&HEADER).is_ok())?;
     check(wire.put(&HEADER).is_ok())?;
