@@ -13,7 +13,7 @@ use Rattle.wire.specs.declared.fate.Fate.{Fate}
 use Rattle.wire.specs.declared.fault.Fault.{Fault}
 use Rattle.wire.specs.Anys.{any-frames}
 use Rattle.wire.specs.Fates.{fates-left, next-fate, struck}
-use Rattle.wire.specs.Kept.{kept}
+use Rattle.wire.specs.Kept.{keeps, gained}
 use Rattle.wire.specs.Lines.{line-room}
 use Rattle.wire.specs.Plains.{plain-room}
 use Rattle.sheet.specs.declared.outcome.Outcome.{Outcome}
@@ -42,7 +42,7 @@ wire-state f = record { room = any-room (f .below); frames = any-frames (f .belo
 -- what its fate leaves of a frame goes on behind the others, while there is room
 abbrev pub carried-on : ℕ → List (List ℕ) → Option (List ℕ) → List (List ℕ)
 carried-on room frames None = frames
-carried-on room frames (Some frame) = kept room frames frame
+carried-on room frames (Some frame) = gained (keeps room frames frame) frames frame
 
 -- the wire after a put; one that is refused changes nothing
 abbrev pub after-put : WireState → List ℕ → WireState
