@@ -68,10 +68,11 @@ pub record Message : Type 0 where
   pub ether-type : ℕ
   pub payload : List ℕ
 
--- what a micropacket of a Message says: its TYPE, whether it completes the payload, and its 32 data bytes
+-- what a micropacket of a Message says: its TYPE, TAIL, ERROR and its 32 data bytes
 pub record Micropacket : Type 0 where
   pub kind : Kind
   pub tail : Bool
+  pub error : Bool
   pub content : List ℕ
 
 -- the Header carries the first 8 bytes of the payload, and TAIL where that is all
@@ -80,17 +81,22 @@ header-of m =
     record {
       kind = Header;
       tail = leb (length (m .payload)) 8;
+      error = false;
       content = header-bytes (m .destination) (m .source) (m .ether-type) (length (m .payload)) (take 8 (m .payload));
     }
 
 -- a Data carries the first 32 of the bytes that are left, and TAIL where those are all
 abbrev pub data-of : List ℕ → Micropacket
-data-of left = record { kind = Data; tail = leb (length left) 32; content = piece-bytes (take 32 left) }
+data-of left = record { kind = Data; tail = leb (length left) 32; error = false; content = piece-bytes (take 32 left) }
 
 -- so many Data, one after the other
 abbrev pub datas-of : ℕ → List ℕ → List Micropacket
 datas-of zero left = []
 datas-of (suc n) left = data-of left ∷ datas-of n (drop 32 left)
+
+-- what ends a Message that is cut: a Data of zeros with ERROR and TAIL
+abbrev pub cut-off : Micropacket
+cut-off = record { kind = Data; tail = true; error = true; content = replicate 32 0 }
 
 -- how many Data a payload of so many bytes takes
 abbrev pub data-count : ℕ → ℕ

@@ -1,5 +1,6 @@
 // The bytes of a Message's micropackets.
 ghost use mathlib.Core.Path.{_≡_};
+ghost use Prim.Native.Nat.{_≤_};
 ghost use lib.ListN.{length};
 ghost use Rattle.frame.specs.Codec.{or-else};
 ghost use Rattle.message.specs.Making.{longest-payload, header-refusal, header-bytes, piece-refusal, piece-bytes, Length-figures};
@@ -43,6 +44,15 @@ pub fn header(
     {
         return Err(Refusal::BadSize);
     }
+    Ok(laid_out(destination, source, ether_type, total, first))
+}
+
+// A Header's data bytes: destination, source, M_len, LLC/SNAP, EtherType and the first bytes of the payload, with zeros
+// behind them.
+fn laid_out(destination: &[u8], source: &[u8], ether_type: u16, total: u64, first: &[u8]) -> [u8; 32]
+    requires { ⌜ length (now destination) ≡ 6 ⌝ ∗ ⌜ length (now source) ≡ 6 ⌝ ∗ ⌜ total ≤ 4294967287 ⌝ ∗ ⌜ length (now first) ≤ 8 ⌝ }
+    ensures { λ r. ⌜ r ≡ header-bytes (now (destination .entry)) (now (source .entry)) «ether_type» total (now (first .entry)) ⌝ }
+{
     let mut bytes = [0; 32];
     put(&mut bytes, 0, destination);
     put(&mut bytes, 6, source);
@@ -50,7 +60,7 @@ pub fn header(
     put(&mut bytes, 16, &SNAP);
     put(&mut bytes, 22, &ether_type.to_be_bytes());
     put(&mut bytes, 24, first);
-    Ok(bytes)
+    bytes
 }
 
 // The data bytes of the next Data of a Message that has `left` bytes of payload to come.

@@ -7,6 +7,7 @@ ghost use Rattle.std.specs.declared.option.Option.the-variants.{None};
 ghost use Rattle.frame.specs.Codec.{or-else};
 ghost use Rattle.message.specs.Making.{snap};
 ghost use Rattle.message.specs.Reading.{part-of, agree, two-at, four-at, heading-in, made-reader, with-message, unless, begin-refusal, begin-answer, begun, begun-buffer, next-refusal, next-answer, gone-on, next-buffer, alone-refusal, outside-refusal, outside-answer, outside-message, outside-buffer, inside-refusal, step-refusal, due-answer, due-message, due-buffer, read-refusal, read-answer, reader-after, buffer-after};
+ghost use Rattle.message.specs.Whole.{Refusals-drop, Messages-come-whole, Cuts-are-marked};
 use crate::copying::put;
 use crate::heading::Heading;
 use crate::making::SNAP;
@@ -49,14 +50,14 @@ fn has_snap(content: &[u8]) -> bool
     content[16..22] == SNAP[0..6]
 }
 
-// An address.
-fn six(bytes: &[u8]) -> [u8; 6]
+// An address, which has six bytes.
+fn address(bytes: &[u8]) -> [u8; 6]
     requires { ⌜ length (now bytes) ≡ 6 ⌝ }
     ensures { λ r. ⌜ r ≡ now (bytes .entry) ⌝ }
 {
-    let mut address = [0; 6];
-    address.copy_from_slice(bytes);
-    address
+    let mut six = [0; 6];
+    six.copy_from_slice(bytes);
+    six
 }
 
 // M_len, most significant byte first.
@@ -73,8 +74,8 @@ fn heading_in(content: &[u8]) -> Heading
     ensures { λ r. ⌜ r ≡ heading-in (now (content .entry)) ⌝ }
 {
     Heading {
-        destination: six(&content[0..6]),
-        source: six(&content[6..12]),
+        destination: address(&content[0..6]),
+        source: address(&content[6..12]),
         ethertype: u16::from_be_bytes([content[22], content[23]]),
         size: m_len(content).saturating_sub(8),
     }
@@ -212,6 +213,9 @@ impl Reader {
         ensures value { λ r. ⌜ r ≡ or-else (read-refusal (now (self .entry)) channel kind tail error (now (content .entry)) (length (now (buffer .entry)))) (read-answer (now (self .entry)) kind (now (content .entry))) ⌝ }
         ensures state { λ _. ⌜ now (self .exit) ≡ reader-after (now (self .entry)) channel kind tail error (now (content .entry)) (length (now (buffer .entry))) ⌝ }
         ensures bytes { λ _. ⌜ now (buffer .exit) ≡ buffer-after (now (self .entry)) channel kind tail error (now (content .entry)) (now (buffer .entry)) ⌝ }
+        ensures drops { λ _. ⌜ Refusals-drop ⌝ }
+        ensures whole { λ _. ⌜ Messages-come-whole ⌝ }
+        ensures cut { λ _. ⌜ Cuts-are-marked ⌝ }
     {
         if channel > 3 {
             return Err(Refusal::BadChannel);
