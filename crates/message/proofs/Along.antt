@@ -253,9 +253,9 @@ along (suc zero) c m came buffer room h e fits is =
 along (suc (suc n)) c m came buffer room h e fits is =
     goes-on (Ok (Complete (heading-of m))) (Whole m room) c m came buffer room (datas-of (suc n) (drop 32 (drop came (m .payload)))) (omega arith) fits is
     (λ b at. goes-like (Ok (Complete (heading-of m))) (Whole m room) c (under c m (came + 32)) (under c m (came + 32)) b
-      (datas-of (suc n) (drop 32 (drop came (m .payload)))) (datas-of (suc n) (drop (came + 32) (m .payload))) refl
-      (ap (datas-of (suc n)) (drop-drop 32 came (m .payload)))
-      (along (suc n) c m (came + 32) b room (omega arith) (omega arith) fits at))
+    (datas-of (suc n) (drop 32 (drop came (m .payload)))) (datas-of (suc n) (drop (came + 32) (m .payload))) refl
+    (ap (datas-of (suc n)) (drop-drop 32 came (m .payload)))
+    (along (suc n) c m (came + 32) b room (omega arith) (omega arith) fits at))
 
 -- a Header that does not complete the payload, and what follows it
 begins :
@@ -341,8 +341,8 @@ along-cut (suc j) (suc n) c m came buffer room l h e fits is =
     let f : (xs : List ℕ) → List Micropacket = λ xs. take j (datas-of n xs) ++ cut-off ∷ [] in
     goes-on (Err Marked) (Rest m room) c m came buffer room (f (drop 32 (drop came (m .payload)))) (omega arith) fits is
     (λ b at. goes-like (Err Marked) (Rest m room) c (under c m (came + 32)) (under c m (came + 32)) b
-      (f (drop 32 (drop came (m .payload)))) (f (drop (came + 32) (m .payload))) refl (ap f (drop-drop 32 came (m .payload)))
-      (along-cut j n c m (came + 32) b room (omega arith) (omega arith) (omega arith) fits at))
+    (f (drop 32 (drop came (m .payload)))) (f (drop (came + 32) (m .payload))) refl (ap f (drop-drop 32 came (m .payload)))
+    (along-cut j n c m (came + 32) b room (omega arith) (omega arith) (omega arith) fits at))
 
 goes-cut :
     (k : ℕ) (c : Channel) (m : Message) (buffer : List ℕ) → Loadable c m → length (m .payload) ≤ length buffer → k < length (micropackets-of m)

@@ -34,8 +34,8 @@ late-begin : (c : Channel) (tail : Bool) (content : List ℕ) (room : ℕ) → N
 late-begin c tail content room =
     cond-both (sameBytes (take 6 (drop 16 content)) snap) _ _ (Numbered true)
     (λ _. cond-both (ltb (four-at 12 content) 8) _ _ (Numbered true) (λ _. refl)
-      (λ _. cond-both (ltb (m-len (longest-payload c)) (four-at 12 content)) _ _ (Numbered true) (λ _. refl)
-        (λ _. cond-both (ltb room (heading-in content .size)) _ _ (Numbered true) (λ _. refl) (λ _. late-tail tail (leb (heading-in content .size) 8)))))
+    (λ _. cond-both (ltb (m-len (longest-payload c)) (four-at 12 content)) _ _ (Numbered true) (λ _. refl)
+    (λ _. cond-both (ltb room (heading-in content .size)) _ _ (Numbered true) (λ _. refl) (λ _. late-tail tail (leb (heading-in content .size) 8)))))
     (λ _. refl)
 
 late-next : (u : Underway) (tail : Bool) (room : ℕ) → Numbered true (next-refusal u tail room)

@@ -50,8 +50,7 @@ pub no-micropacket :
     → shape-refusal channel kind (length content) ≡ Some e → Outcome s channel kind tail error content buffer (Err e) s buffer
 no-micropacket s channel kind tail error content buffer e h =
     let part = part-of (kind-at kind) in
-    let later = step-refusal s channel part tail error content (length buffer) in
-    (
+    let later = step-refusal s channel part tail error content (length buffer) in (
       ap (λ (o : Option Refusal). or-else (first-of o later) (read-answer s kind content)) (sym h),
       ap (λ (o : Option Refusal). after o later s (due-message (s .message) part content)) (sym h),
       ap (λ (o : Option Refusal). unless (first-of o later) (due-buffer (s .message) part content buffer) buffer) (sym h),
@@ -70,11 +69,10 @@ pub stepped :
     → buffer′ ≡ unless (step-refusal s channel part tail error content (length buffer)) (due-buffer (s .message) part content buffer) buffer
     → Outcome s channel kind tail error content buffer r s′ buffer′
 stepped s channel kind part tail error content buffer r s′ buffer′ p h e₁ e₂ e₃ =
-    let later : Part → Option Refusal = λ q. step-refusal s channel q tail error content (length buffer) in
-    (
+    let later : Part → Option Refusal = λ q. step-refusal s channel q tail error content (length buffer) in (
       e₁ ∙ ap₂ (λ (o : Option Refusal) (q : Part). or-else (first-of o (later q)) (due-answer (s .message) q content)) (sym h) p,
       e₂ ∙ dropped s (due-message (s .message) part content) (later part)
-      ∙ ap₂ (λ (o : Option Refusal) (q : Part). after o (later q) s (due-message (s .message) q content)) (sym h) p,
+          ∙ ap₂ (λ (o : Option Refusal) (q : Part). after o (later q) s (due-message (s .message) q content)) (sym h) p,
       e₃ ∙ ap₂ (λ (o : Option Refusal) (q : Part). unless (first-of o (later q)) (due-buffer (s .message) q content buffer) buffer) (sym h) p,
     )
 
@@ -90,10 +88,9 @@ pub stepped-outside :
     × (buffer′ ≡ unless (step-refusal s channel part tail error content (length buffer)) (due-buffer (s .message) part content buffer) buffer)
 stepped-outside s m channel part tail error content buffer r s′ buffer′ none gone e same e₁ e₂ e₃ =
     let t : eqb channel (channel-number (s .channel)) ≡ true = eq-eqb channel (channel-number (s .channel)) same in
-    let h : step-refusal s channel part tail error content (length buffer) ≡ outside-refusal part (s .channel) tail content (length buffer) = cc in
-    (
+    let h : step-refusal s channel part tail error content (length buffer) ≡ outside-refusal part (s .channel) tail content (length buffer) = cc in (
       e₁ ∙ ap₂ (λ (o : Option Refusal) (n : Option Underway). or-else o (due-answer n part content)) (sym h) (sym none),
       e₂ ∙ ap (λ (n : Option Underway). unless (outside-refusal part (s .channel) tail content (length buffer)) (with-message s (outside-message part content)) (with-message s n)) gone
-      ∙ ap₂ (λ (o : Option Refusal) (n : Option Underway). unless o (with-message s (due-message n part content)) (with-message s None)) (sym h) (sym none),
+          ∙ ap₂ (λ (o : Option Refusal) (n : Option Underway). unless o (with-message s (due-message n part content)) (with-message s None)) (sym h) (sym none),
       e₃ ∙ ap₂ (λ (o : Option Refusal) (n : Option Underway). unless o (due-buffer n part content buffer) buffer) (sym h) (sym none),
     )

@@ -49,7 +49,13 @@ pub fn header(
 
 // A Header's data bytes: destination, source, M_len, LLC/SNAP, EtherType and the first bytes of the payload, with zeros
 // behind them.
-fn laid_out(destination: &[u8], source: &[u8], ether_type: u16, total: u64, first: &[u8]) -> [u8; 32]
+fn laid_out(
+    destination: &[u8],
+    source: &[u8],
+    ether_type: u16,
+    total: u64,
+    first: &[u8],
+) -> [u8; 32]
     requires { ⌜ length (now destination) ≡ 6 ⌝ ∗ ⌜ length (now source) ≡ 6 ⌝ ∗ ⌜ total ≤ 4294967287 ⌝ ∗ ⌜ length (now first) ≤ 8 ⌝ }
     ensures { λ r. ⌜ r ≡ header-bytes (now (destination .entry)) (now (source .entry)) «ether_type» total (now (first .entry)) ⌝ }
 {

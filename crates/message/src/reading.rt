@@ -30,7 +30,8 @@ fn part_of(kind: Kind) -> Part
         Kind::Data => Part::Next,
         Kind::Undefined11 | Kind::Undefined12 | Kind::Undefined13 | Kind::Undefined14 => Part::Next,
         Kind::Admin => Part::Alone,
-        Kind::Undefined0 | Kind::Undefined1 | Kind::Undefined6 | Kind::Null | Kind::CreditOnly => Part::Foreign,
+        Kind::Undefined0 | Kind::Undefined1 | Kind::Undefined6 | Kind::Null | Kind::CreditOnly =>
+            Part::Foreign,
         Kind::Reset | Kind::ResetAck | Kind::Initialize | Kind::InitializeAck => Part::Foreign,
     }
 }
@@ -133,7 +134,13 @@ impl Reader {
     }
 
     // A Data where one is due. It must have room for all of the payload, and TAIL where it carries the last of it.
-    fn go_on(&mut self, message: Underway, tail: bool, content: &[u8], buffer: &mut [u8]) -> Result<Read, Refusal>
+    fn go_on(
+        &mut self,
+        message: Underway,
+        tail: bool,
+        content: &[u8],
+        buffer: &mut [u8],
+    ) -> Result<Read, Refusal>
         requires { ⌜ length (now content) ≡ 32 ⌝ }
         ensures value { λ r. ⌜ r ≡ or-else (next-refusal message tail (length (now (buffer .entry)))) (next-answer message) ⌝ }
         ensures state { λ _. ⌜ now (self .exit) ≡ unless (next-refusal message tail (length (now (buffer .entry)))) (with-message (now (self .entry)) (gone-on message)) (now (self .entry)) ⌝ }
@@ -161,7 +168,13 @@ impl Reader {
     }
 
     // Outside a Message a Header or an Admin is due.
-    fn outside(&mut self, part: Part, tail: bool, content: &[u8], buffer: &mut [u8]) -> Result<Read, Refusal>
+    fn outside(
+        &mut self,
+        part: Part,
+        tail: bool,
+        content: &[u8],
+        buffer: &mut [u8],
+    ) -> Result<Read, Refusal>
         requires { ⌜ length (now content) ≡ 32 ⌝ ∗ ⌜ now self .message ≡ None ⌝ }
         ensures value { λ r. ⌜ r ≡ or-else (outside-refusal part (now (self .entry) .channel) tail (now (content .entry)) (length (now (buffer .entry)))) (outside-answer part (now (content .entry))) ⌝ }
         ensures state { λ _. ⌜ now (self .exit) ≡ unless (outside-refusal part (now (self .entry) .channel) tail (now (content .entry)) (length (now (buffer .entry)))) (with-message (now (self .entry)) (outside-message part (now (content .entry)))) (now (self .entry)) ⌝ }
@@ -175,7 +188,14 @@ impl Reader {
     }
 
     // Inside a Message a Data is due.
-    fn inside(&mut self, message: Underway, part: Part, tail: bool, content: &[u8], buffer: &mut [u8]) -> Result<Read, Refusal>
+    fn inside(
+        &mut self,
+        message: Underway,
+        part: Part,
+        tail: bool,
+        content: &[u8],
+        buffer: &mut [u8],
+    ) -> Result<Read, Refusal>
         requires { ⌜ length (now content) ≡ 32 ⌝ }
         ensures value { λ r. ⌜ r ≡ or-else (inside-refusal message part tail (length (now (buffer .entry)))) (next-answer message) ⌝ }
         ensures state { λ _. ⌜ now (self .exit) ≡ unless (inside-refusal message part tail (length (now (buffer .entry)))) (with-message (now (self .entry)) (gone-on message)) (now (self .entry)) ⌝ }
@@ -188,7 +208,15 @@ impl Reader {
     }
 
     // A micropacket. The Message under way is taken out first, so that every refusal drops it.
-    fn step(&mut self, channel: u64, part: Part, tail: bool, error: bool, content: &[u8], buffer: &mut [u8]) -> Result<Read, Refusal>
+    fn step(
+        &mut self,
+        channel: u64,
+        part: Part,
+        tail: bool,
+        error: bool,
+        content: &[u8],
+        buffer: &mut [u8],
+    ) -> Result<Read, Refusal>
         requires { ⌜ length (now content) ≡ 32 ⌝ }
         ensures value { λ r. ⌜ r ≡ or-else (step-refusal (now (self .entry)) channel part tail error (now (content .entry)) (length (now (buffer .entry)))) (due-answer (now (self .entry) .message) part (now (content .entry))) ⌝ }
         ensures state { λ _. ⌜ now (self .exit) ≡ unless (step-refusal (now (self .entry)) channel part tail error (now (content .entry)) (length (now (buffer .entry)))) (with-message (now (self .entry)) (due-message (now (self .entry) .message) part (now (content .entry)))) (with-message (now (self .entry)) None) ⌝ }
@@ -209,7 +237,15 @@ impl Reader {
 
     // Hands the reader a taken micropacket: its channel, TYPE, TAIL, ERROR and data, and a buffer for the payload. Each
     // piece is written at its own place of the buffer, and every other byte stays.
-    pub fn read(&mut self, channel: u64, kind: u64, tail: bool, error: bool, content: &[u8], buffer: &mut [u8]) -> Result<Read, Refusal>
+    pub fn read(
+        &mut self,
+        channel: u64,
+        kind: u64,
+        tail: bool,
+        error: bool,
+        content: &[u8],
+        buffer: &mut [u8],
+    ) -> Result<Read, Refusal>
         ensures value { λ r. ⌜ r ≡ or-else (read-refusal (now (self .entry)) channel kind tail error (now (content .entry)) (length (now (buffer .entry)))) (read-answer (now (self .entry)) kind (now (content .entry))) ⌝ }
         ensures state { λ _. ⌜ now (self .exit) ≡ reader-after (now (self .entry)) channel kind tail error (now (content .entry)) (length (now (buffer .entry))) ⌝ }
         ensures bytes { λ _. ⌜ now (buffer .exit) ≡ buffer-after (now (self .entry)) channel kind tail error (now (content .entry)) (now (buffer .entry)) ⌝ }
