@@ -27,11 +27,11 @@ use Rattle.message.specs.declared.reader.Reader.{Reader}
 use Rattle.message.specs.declared.reader.Underway.{Underway}
 use Rattle.message.specs.declared.reader.Read.{Read}
 use Rattle.message.specs.declared.reader.Read.the-variants.{Begins, Piece, Complete}
-use Rattle.message.specs.Making.{Message, Micropacket, longest-payload, snap, m-len, padded, header-of, data-of, datas-of, data-count, micropackets-of, cut-off}
+use Rattle.message.specs.Making.{Message, Micropacket, Loadable, longest-payload, snap, m-len, padded, header-of, data-of, datas-of, data-count, micropackets-of, cut-off}
 use Rattle.message.specs.Reading.{part-of, agree, fresh, with-message, unless, tail-refusal, four-at, heading-in, begin-refusal, begun-buffer, first-of, after, due-answer, due-message, due-buffer, shape-refusal, step-refusal, next-refusal}
 use Rattle.message.specs.Copying.{written}
-use Rattle.message.specs.Whole.{answer, next-reader, next-bytes, answers, last-reader, last-bytes, More, Ends-in, Loadable, heading-of, Comes-whole, Messages-come-whole, Cut-short, Cuts-are-marked, begun-and-cut}
-use Rattle.message.proofs.Figures.{length-datas}
+use Rattle.message.specs.Whole.{answer, next-reader, next-bytes, answers, last-reader, last-bytes, More, Ends-in, heading-of, Comes-whole, Messages-come-whole, Cut-short, Cuts-are-marked, begun-and-cut}
+use Rattle.message.proofs.Figures.{longest-fits, length-datas}
 use Rattle.message.proofs.Pieces.{piece-back, length-piece, piece-placed}
 use Rattle.message.proofs.Headers.{m-len-back, snap-stands, first-stands, length-header, heading-back}
 
@@ -63,12 +63,6 @@ channel-below Vc0 = omega arith
 channel-below Vc1 = omega arith
 channel-below Vc2 = omega arith
 channel-below Vc3 = omega arith
-
-longest-fits : (c : Channel) → longest-payload c ≤ 4294967287
-longest-fits Vc0 = omega arith
-longest-fits Vc1 = omega arith
-longest-fits Vc2 = omega arith
-longest-fits Vc3 = omega arith
 
 shape-passes : (c : Channel) (kind size : ℕ) → kind < 16 → size ≡ 32 → shape-refusal (channel-number c) kind size ≡ None
 shape-passes c kind size h e =

@@ -1,5 +1,5 @@
 -- What the micropackets of a Message are.
-use Prim.Native.Nat.{ℕ, zero, suc, _+_, _-_, _/_, _%_, min}
+use Prim.Native.Nat.{ℕ, zero, suc, _+_, _-_, _/_, _%_, _^_, _<_, _≤_, min}
 use mathlib.Core.Path.{_≡_}
 use mathlib.Core.Bool.{Bool, true, false, cond}
 use mathlib.Core.List.{List, [], _∷_, _++_}
@@ -105,6 +105,21 @@ data-count total = (total - 8 + 31) / 32
 -- the micropackets of a whole Message, in order
 abbrev pub micropackets-of : Message → List Micropacket
 micropackets-of m = header-of m ∷ datas-of (data-count (length (m .payload))) (drop 8 (m .payload))
+
+-- a Message that can be loaded on a channel
+pub record Loadable (c : Channel) (m : Message) : Type 0 where
+  pub destination : length (m .destination) ≡ 6
+  pub source : length (m .source) ≡ 6
+  pub ether-type : m .ether-type < 2 ^ 16
+  pub payload : length (m .payload) ≤ longest-payload c
+
+-- of a Message that can be loaded, neither the Header nor a Data is refused
+pub record Made (m : Message) : Type 0 where
+  pub header : header-refusal (length (m .destination)) (length (m .source)) (length (m .payload)) (length (take 8 (m .payload))) ≡ None
+  pub pieces : (left : List ℕ) → piece-refusal (length left) (length (take 32 left)) ≡ None
+
+abbrev pub Loadable-is-made : Type 0
+Loadable-is-made = (c : Channel) (m : Message) → Loadable c m → Made m
 
 -- worked figures: a payload of 8 bytes gives M_len 16 and no Data, one of 9 gives 17 and one
 pub record Figures (total m-length datas : ℕ) : Type 0 where

@@ -1,5 +1,5 @@
 -- What comes of the micropackets of a Message, handed to a reader in order.
-use Prim.Native.Nat.{ℕ, _+_, _^_, _<_, _≤_}
+use Prim.Native.Nat.{ℕ, _<_, _≤_}
 use mathlib.Core.Path.{_≡_}
 use mathlib.Core.Bool.{Bool, true, false, cond}
 use mathlib.Core.List.{List, [], _∷_, _++_}
@@ -19,7 +19,7 @@ use Rattle.message.specs.declared.heading.Heading.{Heading}
 use Rattle.message.specs.declared.reader.Reader.{Reader}
 use Rattle.message.specs.declared.reader.Read.{Read}
 use Rattle.message.specs.declared.reader.Read.the-variants.{Begins, Piece, Complete, Admin}
-use Rattle.message.specs.Making.{Message, Micropacket, longest-payload, micropackets-of, cut-off}
+use Rattle.message.specs.Making.{Message, Micropacket, Loadable, micropackets-of, cut-off}
 use Rattle.message.specs.Reading.{fresh, with-message, read-refusal, read-answer, reader-after, buffer-after}
 
 -- what a call of `read` answers, and what it leaves, where it is handed a micropacket of a channel
@@ -61,14 +61,7 @@ Ends-in r [] = ⊥
 Ends-in r (a ∷ []) = a ≡ r
 Ends-in r (a ∷ b ∷ rest) = More a × Ends-in r (b ∷ rest)
 
--- a Message that can be loaded on a channel
-pub record Loadable (c : Channel) (m : Message) : Type 0 where
-  pub destination : length (m .destination) ≡ 6
-  pub source : length (m .source) ≡ 6
-  pub ether-type : m .ether-type < 2 ^ 16
-  pub payload : length (m .payload) ≤ longest-payload c
-
--- what its Header says
+-- what the Header of a Message says
 abbrev pub heading-of : Message → Heading
 heading-of m =
     record {

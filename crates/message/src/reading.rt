@@ -10,6 +10,9 @@ ghost use Rattle.message.specs.Reading.{part-of, agree, two-at, four-at, headi
 ghost use Rattle.message.specs.Whole.{Refusals-drop, Messages-come-whole, Cuts-are-marked};
 use crate::copying::put;
 use crate::heading::Heading;
+use crate::making::COUNTED;
+use crate::making::IN_DATA;
+use crate::making::IN_HEADER;
 use crate::making::SNAP;
 use crate::making::longest;
 use crate::reader::Part;
@@ -78,7 +81,7 @@ fn heading_in(content: &[u8]) -> Heading
         destination: address(&content[0..6]),
         source: address(&content[6..12]),
         ethertype: u16::from_be_bytes([content[22], content[23]]),
-        size: m_len(content).saturating_sub(8),
+        size: m_len(content).saturating_sub(COUNTED),
     }
 }
 
@@ -107,29 +110,31 @@ impl Reader {
     // A Header where one is due. It must have LLC/SNAP in its place, an M_len that a payload on the channel can have,
     // room for all of the payload, and TAIL where it carries all of it.
     fn begin(&mut self, tail: bool, content: &[u8], buffer: &mut [u8]) -> Result<Read, Refusal>
-        requires { ⌜ length (now content) ≡ 32 ⌝ }
+        requires { ⌜ length (now content) ≡ 32 ⌝ ∗ ⌜ now self .message ≡ None ⌝ }
         ensures value { λ r. ⌜ r ≡ or-else (begin-refusal (now (self .entry) .channel) tail (now (content .entry)) (length (now (buffer .entry)))) (begin-answer (now (content .entry))) ⌝ }
         ensures state { λ _. ⌜ now (self .exit) ≡ unless (begin-refusal (now (self .entry) .channel) tail (now (content .entry)) (length (now (buffer .entry)))) (with-message (now (self .entry)) (begun (now (content .entry)))) (now (self .entry)) ⌝ }
         ensures bytes { λ _. ⌜ now (buffer .exit) ≡ unless (begin-refusal (now (self .entry) .channel) tail (now (content .entry)) (length (now (buffer .entry)))) (begun-buffer (now (content .entry)) (now (buffer .entry))) (now (buffer .entry)) ⌝ }
     {
         let counted = m_len(content);
-        if !has_snap(content) || counted < 8 || counted > longest(self.channel) + 8 {
+        if !has_snap(content) || counted < COUNTED || counted > longest(self.channel) + COUNTED {
             return Err(Refusal::BadHeader);
         }
         let heading = heading_in(content);
         if heading.size > buffer.len() as u64 {
             return Err(Refusal::NoSpace);
         }
-        if !tail_fits(tail, heading.size <= 8) {
+        if !tail_fits(tail, heading.size <= IN_HEADER) {
             return Err(Refusal::OutOfStep);
         }
-        let count = heading.size.min(8) as usize;
+        let count = heading.size.min(IN_HEADER) as usize;
         put(buffer, 0, &content[24..24 + count]);
-        if heading.size <= 8 {
-            self.message = None;
+        if heading.size <= IN_HEADER {
             return Ok(Read::Complete(heading));
         }
-        self.message = Some(Underway { heading, came: 8 });
+        self.message = Some(Underway {
+            heading,
+            came: IN_HEADER,
+        });
         Ok(Read::Begins(heading))
     }
 
@@ -141,7 +146,7 @@ impl Reader {
         content: &[u8],
         buffer: &mut [u8],
     ) -> Result<Read, Refusal>
-        requires { ⌜ length (now content) ≡ 32 ⌝ }
+        requires { ⌜ length (now content) ≡ 32 ⌝ ∗ ⌜ now self .message ≡ None ⌝ }
         ensures value { λ r. ⌜ r ≡ or-else (next-refusal message tail (length (now (buffer .entry)))) (next-answer message) ⌝ }
         ensures state { λ _. ⌜ now (self .exit) ≡ unless (next-refusal message tail (length (now (buffer .entry)))) (with-message (now (self .entry)) (gone-on message)) (now (self .entry)) ⌝ }
         ensures bytes { λ _. ⌜ now (buffer .exit) ≡ unless (next-refusal message tail (length (now (buffer .entry)))) (next-buffer message (now (content .entry)) (now (buffer .entry))) (now (buffer .entry)) ⌝ }
@@ -152,19 +157,18 @@ impl Reader {
         }
         let at = message.came.min(heading.size);
         let left = heading.size - at;
-        if !tail_fits(tail, left <= 32) {
+        if !tail_fits(tail, left <= IN_DATA) {
             return Err(Refusal::OutOfStep);
         }
-        put(buffer, at as usize, &content[0..left.min(32) as usize]);
-        if left <= 32 {
-            self.message = None;
+        put(buffer, at as usize, &content[0..left.min(IN_DATA) as usize]);
+        if left <= IN_DATA {
             return Ok(Read::Complete(heading));
         }
         self.message = Some(Underway {
             heading,
-            came: at + 32,
+            came: at + IN_DATA,
         });
-        Ok(Read::Piece { at, count: 32 })
+        Ok(Read::Piece { at, count: IN_DATA })
     }
 
     // Outside a Message a Header or an Admin is due.
@@ -196,7 +200,7 @@ impl Reader {
         content: &[u8],
         buffer: &mut [u8],
     ) -> Result<Read, Refusal>
-        requires { ⌜ length (now content) ≡ 32 ⌝ }
+        requires { ⌜ length (now content) ≡ 32 ⌝ ∗ ⌜ now self .message ≡ None ⌝ }
         ensures value { λ r. ⌜ r ≡ or-else (inside-refusal message part tail (length (now (buffer .entry)))) (next-answer message) ⌝ }
         ensures state { λ _. ⌜ now (self .exit) ≡ unless (inside-refusal message part tail (length (now (buffer .entry)))) (with-message (now (self .entry)) (gone-on message)) (now (self .entry)) ⌝ }
         ensures bytes { λ _. ⌜ now (buffer .exit) ≡ unless (inside-refusal message part tail (length (now (buffer .entry)))) (next-buffer message (now (content .entry)) (now (buffer .entry))) (now (buffer .entry)) ⌝ }

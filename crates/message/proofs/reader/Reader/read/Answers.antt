@@ -37,5 +37,5 @@ pub returns : need.returns
 returns c =
     let h : shape-refusal (c .args .channel) (c .args .kind) (length (c .args .content .now)) ≡ None = search needs in
     let o = stepped (c .args .self .now) (c .args .channel) (c .args .kind) (c .part-of-part .result) (c .args .tail) (c .args .error) (c .args .content .now) (c .args .buffer .now)
-    (c .step .result) (c .step .last .self) (c .step .last .buffer) (c .part-of-part .ensures ∙ ap part-of (kind-told (c .args .kind) _ (c .in-Continue-from-value .ensures tt))) h (c .step .ensures .value) (c .step .ensures .state) (c .step .ensures .bytes) in
+    (c .step .result) (c .step .last .self) (c .step .last .buffer) (c .part-of-part .ensures ∙ ap part-of (kind-told (c .args .kind) _ (c .in-Continue-from-value .ensures tt))) h (search needs) (search needs) (search needs) in
     record { value = o .0; state = o .1; bytes = o .2; drops = refusals-drop; whole = messages-come-whole; cut = cuts-are-marked }
