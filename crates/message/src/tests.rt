@@ -156,17 +156,58 @@ fn at_limit(number_of: u64, channel: Channel) -> Result<(), Fail> {
 
 #[test]
 fn limits() -> Result<(), Fail> {
-    at_limit(0, Channel::Vc0)?;
-    at_limit(1, Channel::Vc1)?;
-    at_limit(2, Channel::Vc2)?;
-    at_limit(3, Channel::Vc3)?;
-    check(Reader::new(4).is_err())?;
-    check(header(&DESTINATION, &SOURCE, 0, 4_294_967_287, &[0; 8]).is_ok())?;
-    check(header(&DESTINATION, &SOURCE, 0, 4_294_967_288, &[0; 8]).is_err())?;
-    check(header(&DESTINATION, &SOURCE[0..5], 0, 0, &[]).is_err())?;
-    check(header(&DESTINATION, &SOURCE, 0, 7, &[0; 8]).is_err())?;
-    check(piece(33, &[0; 33]).is_err())?;
-    check(piece(31, &[0; 32]).is_err())
+    for (number_of, channel) in [
+        (0u64, Channel::Vc0),
+        (1, Channel::Vc1),
+        (2, Channel::Vc2),
+        (3, Channel::Vc3),
+    ] {
+        at_limit(number_of, channel)?;
+    }
+    check(Reader::new(4).is_err())
+}
+
+// Whether a Header is made with addresses of these lengths and a first piece of zeros.
+fn is_made(destination: usize, source: usize, total: u64, first: usize) -> bool {
+    let zeros = [0u8; 9];
+    header(
+        &zeros[0..destination.min(9)],
+        &zeros[0..source.min(9)],
+        0,
+        total,
+        &zeros[0..first.min(9)],
+    ).is_ok()
+}
+
+#[test]
+fn sizes() -> Result<(), Fail> {
+    for (destination, source, total, first, expected) in [
+        (6usize, 6usize, 9u64, 8usize, true),
+        (5, 6, 9, 8, false),
+        (7, 6, 9, 8, false),
+        (6, 5, 9, 8, false),
+        (6, 7, 9, 8, false),
+        (6, 6, 9, 9, false),
+        (6, 6, 8, 7, false),
+        (6, 6, 7, 8, false),
+        (6, 6, 7, 7, true),
+        (6, 6, 0, 0, true),
+        (6, 6, 4_294_967_287, 8, true),
+        (6, 6, 4_294_967_288, 8, false),
+    ] {
+        check_eq(is_made(destination, source, total, first), expected)?;
+    }
+    for (left, size, expected) in [
+        (33u64, 32usize, true),
+        (33, 33, false),
+        (31, 31, true),
+        (31, 32, false),
+        (32, 31, false),
+        (0, 0, true),
+    ] {
+        check_eq(piece(left, &[0; 33][0..size.min(33)]).is_ok(), expected)?;
+    }
+    Ok(())
 }
 
 // What a new reader of channel 1, with room for nine bytes, says to a micropacket.
@@ -184,26 +225,33 @@ fn first_answer(
 
 #[test]
 fn outside_a_message() -> Result<(), Fail> {
-    let mut spoiled = NINE;
-    spoiled[21] = 1;
-    check_eq(first_answer(4, 9, false, true, &NINE)?, 1)?;
-    check_eq(first_answer(1, 16, false, true, &NINE)?, 6)?;
-    check_eq(first_answer(1, 9, false, true, &NINE[0..31])?, 6)?;
-    check_eq(first_answer(2, 9, false, true, &spoiled)?, 12)?;
-    check_eq(first_answer(2, 9, false, false, &spoiled)?, 13)?;
+    for (channel, kind, tail, error, m_len, expected) in [
+        (4u64, 9u64, false, true, 17u32, 1u8),
+        (1, 16, false, true, 17, 6),
+        (2, 9, false, true, 17, 12),
+        (2, 9, false, false, 7, 13),
+        (1, 9, true, false, 7, 14),
+        (1, 9, true, false, 8, 0),
+        (1, 9, true, false, 16, 0),
+        (1, 9, false, false, 16, 13),
+        (1, 9, false, false, 17, 0),
+        (1, 9, true, false, 17, 13),
+        (1, 9, true, false, 18, 15),
+        (1, 15, true, false, 0, 0),
+        (1, 15, false, false, 0, 13),
+    ] {
+        check_eq(
+            first_answer(channel, kind, tail, error, &counting(m_len))?,
+            expected,
+        )?;
+    }
     for kind in [0u64, 1, 2, 3, 4, 5, 6, 7, 8, 10, 11, 12, 13, 14] {
         check_eq(first_answer(1, kind, true, false, &NINE)?, 13)?;
     }
+    let mut spoiled = NINE;
+    spoiled[21] = 1;
     check_eq(first_answer(1, 9, false, false, &spoiled)?, 14)?;
-    check_eq(first_answer(1, 9, true, false, &counting(7))?, 14)?;
-    check_eq(first_answer(1, 9, true, false, &counting(8))?, 0)?;
-    check_eq(first_answer(1, 9, true, false, &counting(16))?, 0)?;
-    check_eq(first_answer(1, 9, false, false, &counting(16))?, 13)?;
-    check_eq(first_answer(1, 9, false, false, &NINE)?, 0)?;
-    check_eq(first_answer(1, 9, true, false, &NINE)?, 13)?;
-    check_eq(first_answer(1, 9, true, false, &counting(18))?, 15)?;
-    check_eq(first_answer(1, 15, true, false, &NINE)?, 0)?;
-    check_eq(first_answer(1, 15, false, false, &NINE)?, 13)
+    check_eq(first_answer(1, 9, false, true, &NINE[0..31])?, 6)
 }
 
 // What a reader of channel 1 with a Message of nine bytes under way says to a micropacket, with room for as many bytes.
@@ -270,15 +318,20 @@ fn next_answer(
 
 #[test]
 fn inside_a_message() -> Result<(), Fail> {
-    next_answer(4, 8, true, true, 9, 1)?;
-    next_answer(1, 16, true, true, 9, 6)?;
-    next_answer(0, 8, true, true, 9, 12)?;
-    next_answer(0, 8, true, false, 9, 13)?;
-    next_answer(1, 9, true, false, 9, 13)?;
-    next_answer(1, 15, true, false, 9, 13)?;
-    next_answer(1, 10, true, false, 9, 13)?;
-    next_answer(1, 8, false, false, 8, 15)?;
-    next_answer(1, 8, false, false, 9, 13)?;
-    next_answer(1, 8, true, false, 9, 0)?;
-    next_answer(1, 12, true, false, 9, 0)
+    for (channel, kind, tail, error, room, expected) in [
+        (4u64, 8u64, true, true, 9usize, 1u8),
+        (1, 16, true, true, 9, 6),
+        (0, 8, true, true, 9, 12),
+        (0, 8, true, false, 9, 13),
+        (1, 9, true, false, 9, 13),
+        (1, 15, true, false, 9, 13),
+        (1, 10, true, false, 9, 13),
+        (1, 8, false, false, 8, 15),
+        (1, 8, false, false, 9, 13),
+        (1, 8, true, false, 9, 0),
+        (1, 12, true, false, 9, 0),
+    ] {
+        next_answer(channel, kind, tail, error, room, expected)?;
+    }
+    Ok(())
 }
