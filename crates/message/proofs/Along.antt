@@ -28,7 +28,7 @@ use Rattle.message.specs.declared.reader.Underway.{Underway}
 use Rattle.message.specs.declared.reader.Read.{Read}
 use Rattle.message.specs.declared.reader.Read.the-variants.{Begins, Piece, Complete}
 use Rattle.message.specs.Making.{Message, Micropacket, Loadable, longest-payload, snap, m-len, padded, header-of, data-of, datas-of, data-count, micropackets-of, cut-off}
-use Rattle.message.specs.Reading.{part-of, agree, fresh, with-message, unless, tail-refusal, four-at, heading-in, begin-refusal, begun-buffer, first-of, after, due-answer, due-message, due-buffer, shape-refusal, step-refusal, next-refusal}
+use Rattle.message.specs.Reading.{part-of, agree, fresh, with-message, unless, tail-refusal, four-at, heading-in, begin-refusal, begun-buffer, first-of, after, due-answer, due-message, due-buffer, shape-refusal, step-refusal, next-refusal, read-refusal, read-answer, reader-after, buffer-after}
 use Rattle.message.specs.Copying.{written}
 use Rattle.message.specs.Whole.{answer, next-reader, next-bytes, answers, last-reader, last-bytes, More, Ends-in, heading-of, Comes-whole, Messages-come-whole, Cut-short, Cuts-are-marked, begun-and-cut}
 use Rattle.message.proofs.Figures.{longest-fits, length-datas}
@@ -50,6 +50,7 @@ comes :
     (s : Reader) (c : Channel) (buffer : List ℕ) (p : Micropacket) → Passes s c buffer p
     → Comes s c buffer p (due-answer (s .message) (part-of (kind-at (type-of (p .kind)))) (p .content)) (due-message (s .message) (part-of (kind-at (type-of (p .kind)))) (p .content))
     (due-buffer (s .message) (part-of (kind-at (type-of (p .kind)))) (p .content) buffer)
+unfolding read-refusal read-answer reader-after buffer-after
 comes s c buffer p h =
     let part = part-of (kind-at (type-of (p .kind))) in
     record {
@@ -298,6 +299,7 @@ messages-come-whole c m buffer load fits =
 cut-marked :
     (After : List ℕ → Type 0) (c : Channel) (s : Reader) (buffer : List ℕ) → with-message s None ≡ fresh c → After buffer
     → Goes (Err Marked) After c s buffer (cut-off ∷ [])
+unfolding read-refusal read-answer reader-after buffer-after
 cut-marked After c s buffer own holds =
     let part = part-of (kind-at 8) in
     let content = cut-off .content in

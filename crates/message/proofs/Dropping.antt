@@ -19,7 +19,7 @@ use Rattle.message.specs.declared.reader.Underway.{Underway}
 use Rattle.message.specs.declared.reader.Part.{Part}
 use Rattle.message.specs.declared.reader.Part.the-variants.{First, Next, Alone, Foreign}
 use Rattle.message.specs.Making.{snap, longest-payload, m-len}
-use Rattle.message.specs.Reading.{part-of, agree, with-message, four-at, heading-in, tail-refusal, begin-refusal, next-refusal, left-of, first-of, after, due-refusal, due-message, shape-refusal, step-refusal}
+use Rattle.message.specs.Reading.{part-of, agree, with-message, four-at, heading-in, tail-refusal, begin-refusal, next-refusal, left-of, first-of, after, due-refusal, due-message, shape-refusal, step-refusal, read-refusal, reader-after}
 use Rattle.message.specs.Whole.{Refusals-drop}
 
 -- none, or a refusal whose number is 12 or more, or is not
@@ -70,6 +70,7 @@ by-number None (Some f) s m e p q h = let g : f ≡ e = cc in cc
 by-number (Some f) b s m e p q h = let g : f ≡ e = cc in cc
 
 pub refusals-drop : Refusals-drop
+unfolding read-refusal reader-after
 refusals-drop s channel kind tail error content room e h =
     by-number (shape-refusal channel kind (length content)) (step-refusal s channel (part-of (kind-at kind)) tail error content room) s
     (due-message (s .message) (part-of (kind-at kind)) content) e (early-shape channel kind (length content))

@@ -5,3 +5,4 @@ pub mod Figures
 pub mod Steps
 pub mod Along
 pub mod Dropping
+pub mod Rooms

@@ -48,6 +48,7 @@ Outcome s channel kind tail error content buffer r s′ buffer′ =
 pub no-micropacket :
     (s : Reader) (channel kind : ℕ) (tail error : Bool) (content buffer : List ℕ) (e : Refusal)
     → shape-refusal channel kind (length content) ≡ Some e → Outcome s channel kind tail error content buffer (Err e) s buffer
+unfolding read-refusal read-answer reader-after buffer-after
 no-micropacket s channel kind tail error content buffer e h =
     let part = part-of (kind-at kind) in
     let later = step-refusal s channel part tail error content (length buffer) in (
@@ -68,6 +69,7 @@ pub stepped :
     → s′ ≡ unless (step-refusal s channel part tail error content (length buffer)) (with-message s (due-message (s .message) part content)) (with-message s None)
     → buffer′ ≡ unless (step-refusal s channel part tail error content (length buffer)) (due-buffer (s .message) part content buffer) buffer
     → Outcome s channel kind tail error content buffer r s′ buffer′
+unfolding read-refusal read-answer reader-after buffer-after
 stepped s channel kind part tail error content buffer r s′ buffer′ p h e₁ e₂ e₃ =
     let later : Part → Option Refusal = λ q. step-refusal s channel q tail error content (length buffer) in (
       e₁ ∙ ap₂ (λ (o : Option Refusal) (q : Part). or-else (first-of o (later q)) (due-answer (s .message) q content)) (sym h) p,

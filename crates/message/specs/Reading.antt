@@ -1,5 +1,5 @@
 -- What a reader makes of a micropacket.
-use Prim.Native.Nat.{ℕ, _+_, _-_, _*_, min}
+use Prim.Native.Nat.{ℕ, _+_, _-_, _*_, _≤_, min}
 use mathlib.Core.Path.{_≡_}
 use mathlib.Core.Bool.{Bool, true, false, cond, not}
 use mathlib.Core.List.{List}
@@ -196,12 +196,12 @@ first-of None later = later
 first-of (Some e) later = Some e
 
 -- what is refused where a reader is handed a micropacket's channel, TYPE, TAIL, ERROR and data, and room for a payload
-abbrev pub read-refusal : Reader → ℕ → ℕ → Bool → Bool → List ℕ → ℕ → Option Refusal
+unfoldable pub read-refusal : Reader → ℕ → ℕ → Bool → Bool → List ℕ → ℕ → Option Refusal
 read-refusal reader channel kind tail error content room =
     first-of (shape-refusal channel kind (length content)) (step-refusal reader channel (part-of (kind-at kind)) tail error content room)
 
 -- the answer
-abbrev pub read-answer : Reader → ℕ → List ℕ → Read
+unfoldable pub read-answer : Reader → ℕ → List ℕ → Read
 read-answer reader kind content = due-answer (reader .message) (part-of (kind-at kind)) content
 
 -- the reader afterwards: what is no micropacket leaves its Message, and a micropacket that is refused drops it
@@ -210,13 +210,24 @@ after None None reader message = with-message reader message
 after None (Some e) reader message = with-message reader None
 after (Some e) later reader message = reader
 
-abbrev pub reader-after : Reader → ℕ → ℕ → Bool → Bool → List ℕ → ℕ → Reader
+unfoldable pub reader-after : Reader → ℕ → ℕ → Bool → Bool → List ℕ → ℕ → Reader
 reader-after reader channel kind tail error content room =
     after (shape-refusal channel kind (length content)) (step-refusal reader channel (part-of (kind-at kind)) tail error content room)
     reader (due-message (reader .message) (part-of (kind-at kind)) content)
 
 -- the buffer afterwards
-abbrev pub buffer-after : Reader → ℕ → ℕ → Bool → Bool → List ℕ → List ℕ → List ℕ
+unfoldable pub buffer-after : Reader → ℕ → ℕ → Bool → Bool → List ℕ → List ℕ → List ℕ
 buffer-after reader channel kind tail error content buffer =
     unless (read-refusal reader channel kind tail error content (length buffer))
     (due-buffer (reader .message) (part-of (kind-at kind)) content buffer) buffer
+
+-- what an answer says of the buffer lies within it
+abbrev pub Lies-within : ℕ → Read → Type 0
+Lies-within room (reads.Begins h) = h .size ≤ room
+Lies-within room (reads.Piece at count) = at + count ≤ room
+Lies-within room (reads.Complete h) = h .size ≤ room
+Lies-within room reads.Admin = Unit {0}
+
+abbrev pub Within : ℕ → Result Read Refusal → Type 0
+Within room (Ok r) = Lies-within room r
+Within room (Err e) = Unit {0}

@@ -6,7 +6,7 @@ ghost use Rattle.std.specs.shelf.Text.{sameBytes};
 ghost use Rattle.std.specs.declared.option.Option.the-variants.{None};
 ghost use Rattle.frame.specs.Codec.{or-else};
 ghost use Rattle.message.specs.Making.{snap};
-ghost use Rattle.message.specs.Reading.{part-of, agree, two-at, four-at, heading-in, made-reader, with-message, unless, begin-refusal, begin-answer, begun, begun-buffer, next-refusal, next-answer, gone-on, next-buffer, alone-refusal, outside-refusal, outside-answer, outside-message, outside-buffer, inside-refusal, step-refusal, due-answer, due-message, due-buffer, read-refusal, read-answer, reader-after, buffer-after};
+ghost use Rattle.message.specs.Reading.{part-of, agree, two-at, four-at, heading-in, made-reader, with-message, unless, begin-refusal, begin-answer, begun, begun-buffer, next-refusal, next-answer, gone-on, next-buffer, alone-refusal, outside-refusal, outside-answer, outside-message, outside-buffer, inside-refusal, step-refusal, due-answer, due-message, due-buffer, read-refusal, read-answer, reader-after, buffer-after, Within};
 ghost use Rattle.message.specs.Whole.{Refusals-drop, Messages-come-whole, Cuts-are-marked};
 use crate::copying::put;
 use crate::heading::Heading;
@@ -253,6 +253,7 @@ impl Reader {
         ensures value { λ r. ⌜ r ≡ or-else (read-refusal (now (self .entry)) channel kind tail error (now (content .entry)) (length (now (buffer .entry)))) (read-answer (now (self .entry)) kind (now (content .entry))) ⌝ }
         ensures state { λ _. ⌜ now (self .exit) ≡ reader-after (now (self .entry)) channel kind tail error (now (content .entry)) (length (now (buffer .entry))) ⌝ }
         ensures bytes { λ _. ⌜ now (buffer .exit) ≡ buffer-after (now (self .entry)) channel kind tail error (now (content .entry)) (now (buffer .entry)) ⌝ }
+        ensures within { λ r. ⌜ Within (length (now (buffer .entry))) r ⌝ }
         ensures drops { λ _. ⌜ Refusals-drop ⌝ }
         ensures whole { λ _. ⌜ Messages-come-whole ⌝ }
         ensures cut { λ _. ⌜ Cuts-are-marked ⌝ }
