@@ -1,0 +1,4 @@
+pub mod Copying
+pub mod Making
+pub mod Reading
+pub mod Whole
