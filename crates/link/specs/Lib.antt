@@ -1,0 +1,7 @@
+pub mod Naming
+pub mod Numbering
+pub mod Records
+pub mod States
+pub mod Standings
+pub mod Log
+pub mod Taking
