@@ -5,3 +5,4 @@ pub mod States
 pub mod Standings
 pub mod Log
 pub mod Taking
+pub mod Credit

@@ -2,6 +2,7 @@
 mod answer;
 mod buffers;
 mod channels;
+mod credit;
 mod end;
 mod event;
 mod keeping;
