@@ -6,3 +6,5 @@ pub mod Standings
 pub mod Log
 pub mod Taking
 pub mod Credit
+pub mod Checking
+pub mod Loading

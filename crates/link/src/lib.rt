@@ -1,11 +1,14 @@
 // One end of a link: what it loads, sends, receives, repeats and keeps count of.
 mod answer;
+mod body;
 mod buffers;
 mod channels;
+mod checking;
 mod credit;
 mod end;
 mod event;
 mod keeping;
+mod loading;
 mod log;
 mod micropacket;
 mod naming;
@@ -13,6 +16,7 @@ mod numbering;
 mod phase;
 mod record;
 mod slip;
+mod sort;
 mod standing;
 mod taking;
 
