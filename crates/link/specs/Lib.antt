@@ -8,3 +8,5 @@ pub mod Taking
 pub mod Credit
 pub mod Checking
 pub mod Loading
+pub mod Messages
+pub mod Outcomes

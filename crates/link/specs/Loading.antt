@@ -84,7 +84,7 @@ spent r check left =
       «check_in» = r .«check_in»;
     }
 
-abbrev pub put : State → Body → ℕ → State
+unfoldable pub put : State → Body → ℕ → State
 put s body left =
     loaded
     (with-core s (with-record (s .core) (body .channel) (spent (record-of (s .core) (body .channel)) (body .check) left)))

@@ -19,13 +19,9 @@ use Rattle.link.specs.declared.phase.Phase.the-variants.{Normal, Shutdown}
 use Rattle.link.specs.declared.slip.Slip.{Slip}
 use Rattle.link.specs.declared.slip.Taken.{Taken}
 use Rattle.link.specs.Log.{or-nothing}
+use Rattle.link.specs.Outcomes.{if-normal}
 use Rattle.link.specs.Records.{record-of, with-record, slip-out, slip-back}
 use Rattle.link.specs.States.{State, with-core, with-held, held-on, capacity-of}
-
--- what is done only in Normal
-abbrev pub if-normal : {X : Type 0} → Phase → Result X Refusal → Result X Refusal
-if-normal Normal x = x
-if-normal Shutdown x = Err NotNormal
 
 -- what a take finds, or the first refusal that applies
 abbrev pub take-found : State → ℕ → ℕ → Result Held Refusal

@@ -10,6 +10,7 @@ mod event;
 mod keeping;
 mod loading;
 mod log;
+mod messages;
 mod micropacket;
 mod naming;
 mod numbering;

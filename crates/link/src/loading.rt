@@ -63,7 +63,7 @@ impl End<'_> {
     }
 
     // A Header, Data or Admin with the check that goes with it.
-    fn body(&self, channel: Channel, kind: Kind, tail: bool, error: bool, content: [u8; 32]) -> Body
+    pub(crate) fn body(&self, channel: Channel, kind: Kind, tail: bool, error: bool, content: [u8; 32]) -> Body
         ensures { λ r. ⌜ r ≡ body-of (now (self .entry) .core) channel kind tail error content ⌝ }
     {
         let check = check_after(kind, self.core.record(channel).check_out, &content);
@@ -78,7 +78,7 @@ impl End<'_> {
     }
 
     // Loads a Header, Data or Admin, with `left` bytes of its Message to come.
-    fn put(&mut self, body: Body, left: u64)
+    pub(crate) fn put(&mut self, body: Body, left: u64)
         requires { ⌜ has-room (state-of (now self)) ≡ true ⌝ }
         ensures { λ _. ⌜ state-of (now (self .exit)) ≡ put (state-of (now (self .entry))) body left ⌝ }
     {
