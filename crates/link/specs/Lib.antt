@@ -10,3 +10,5 @@ pub mod Checking
 pub mod Loading
 pub mod Messages
 pub mod Outcomes
+pub mod Repeating
+pub mod Sending
