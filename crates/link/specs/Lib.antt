@@ -12,3 +12,5 @@ pub mod Messages
 pub mod Outcomes
 pub mod Repeating
 pub mod Sending
+pub mod Acknowledging
+pub mod Receiving

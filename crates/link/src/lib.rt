@@ -1,4 +1,5 @@
 // One end of a link: what it loads, sends, receives, repeats and keeps count of.
+mod acknowledging;
 mod answer;
 mod body;
 mod buffers;
@@ -15,6 +16,8 @@ mod micropacket;
 mod naming;
 mod numbering;
 mod phase;
+mod received;
+mod receiving;
 mod record;
 mod repeating;
 mod sending;
