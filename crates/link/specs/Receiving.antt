@@ -46,7 +46,7 @@ unfoldable pub read-made : List ℕ → Result Received Refusal
 read-made frame = or-else (frame-refusal (length frame)) (read-of frame)
 
 -- whether a TSEQ is right: a sequenced micropacket has the number due after the last accepted, any other has none
-abbrev pub in-turn : Core → Sort → ℕ → Bool
+unfoldable pub in-turn : Core → Sort → ℕ → Bool
 in-turn c Idle tseq = eqb tseq no-number
 in-turn c Control tseq = eqb tseq no-number
 in-turn c Credit tseq = eqb tseq (due numbers (c .accepted))
@@ -58,7 +58,7 @@ unfoldable pub check-due : Core → Received → ℕ
 check-due c r = check-after (r .fields .kind) (record-of c (r .fields .vc) .«check_in») (r .content)
 
 -- whether the one that it has is right; with ERROR it is not looked at
-abbrev pub end-right : Core → Sort → Received → Bool
+unfoldable pub end-right : Core → Sort → Received → Bool
 end-right c Idle r = true
 end-right c Control r = true
 end-right c Credit r = true
