@@ -14,3 +14,5 @@ pub mod Repeating
 pub mod Sending
 pub mod Acknowledging
 pub mod Receiving
+pub mod Calls
+pub mod Laws

@@ -2,6 +2,7 @@
 ghost use mathlib.Core.Path.{_≡_};
 ghost use mathlib.Core.Bool.{true};
 ghost use lib.ListN.{length};
+ghost use Rattle.link.specs.Laws.{Discarded-logs, Legal-frees, Legal-by-number};
 ghost use Rattle.link.specs.Outcomes.{and-then, end-after};
 ghost use Rattle.link.specs.Receiving.{read-made, in-turn, check-due, end-right, cause-of, noted, has-place, moved, entered, overflowed, sequenced, carried-in, admitted, outcome, judged, verdict, receive-answer, receive-found};
 ghost use Rattle.link.specs.States.{state-of};
@@ -229,6 +230,9 @@ impl End<'_> {
     pub fn receive(&mut self, frame: &[u8]) -> Result<Answer, Refusal>
         ensures value { λ r. ⌜ r ≡ receive-answer (state-of (now (self .entry))) (now (frame .entry)) ⌝ }
         ensures after { λ _. ⌜ state-of (now (self .exit)) ≡ end-after (state-of (now (self .entry))) (receive-found (state-of (now (self .entry))) (now (frame .entry))) ⌝ }
+        ensures discarded { λ _. ⌜ Discarded-logs ⌝ }
+        ensures frees { λ _. ⌜ Legal-frees ⌝ }
+        ensures legal { λ _. ⌜ Legal-by-number ⌝ }
     {
         let received = Received::read(frame)?;
         Ok(self.judge(&received))
