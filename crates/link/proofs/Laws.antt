@@ -131,7 +131,7 @@ unfolding carried-in overflowed
 carry-sheds s r =
     shed-either (s .output) _ _ _
     (let h : Shed (entered s r .output) (sequenced (entered s r) r .output) = sequence-sheds (entered s r) r in
-     record { gone = h .gone; is = h .is ∙ ap (λ l. drop (h .gone) l) (enter-same s r) })
+    record { gone = h .gone; is = h .is ∙ ap (λ l. drop (h .gone) l) (enter-same s r) })
     (shut-sheds _)
 
 admit-sheds : (sort : Sort) (s : State) (r : Received) → Shed (s .output) (admitted sort s r .output)
@@ -251,9 +251,10 @@ unfolding credit-gone
 credit-shifts s =
     let given = loaded s (idle-body CreditOnly) in
     let moved = moved-on given in
-    elim (credit-waits (s .core)) as (λ b. Shifts s (cond b (cond (has-room s) moved s) s))
-    [ true ↦ elim (has-room s) as (λ b. Shifts s (cond b moved s)) [ true ↦ appended (s .output) _ | false ↦ shifted _ _ (shed-same (s .output)) ]
-    | false ↦ shifted _ _ (shed-same (s .output)) ]
+    elim (credit-waits (s .core)) as (λ b. Shifts s (cond b (cond (has-room s) moved s) s)) [
+      | true ↦ elim (has-room s) as (λ b. Shifts s (cond b moved s)) [ true ↦ appended (s .output) _ | false ↦ shifted _ _ (shed-same (s .output)) ]
+      | false ↦ shifted _ _ (shed-same (s .output))
+    ]
 
 gone-at-shifts : (s : State) (o : Option Micropacket) → Shifts s (gone-at s o)
 gone-at-shifts s (Some m) = shifted _ _ (shed-same (s .output))
@@ -357,16 +358,34 @@ unfolding freed-front
 free-frees s count rseq =
     freed-either count s (eqb count 0) _ _
     (λ e. let z : count ≡ 0 = eqb-true count 0 e in
-     record {
-       output = ap (λ n. drop n (s .output)) (sym z);
-       window = refl; held = refl; capacities = refl; events = refl; event-room = refl; phase = refl; next = refl;
-       accepted = refl; named = refl; channels = refl; counters = refl;
-     })
+    record {
+      output = ap (λ n. drop n (s .output)) (sym z);
+      window = refl;
+      held = refl;
+      capacities = refl;
+      events = refl;
+      event-room = refl;
+      phase = refl;
+      next = refl;
+      accepted = refl;
+      named = refl;
+      channels = refl;
+      counters = refl;
+    })
     (λ e. record {
-       output = refl;
-       window = refl; held = refl; capacities = refl; events = refl; event-room = refl; phase = refl; next = refl;
-       accepted = refl; named = refl; channels = refl; counters = refl;
-     })
+      output = refl;
+      window = refl;
+      held = refl;
+      capacities = refl;
+      events = refl;
+      event-room = refl;
+      phase = refl;
+      next = refl;
+      accepted = refl;
+      named = refl;
+      channels = refl;
+      counters = refl;
+    })
 
 ack-by-frees : (s : State) (rseq count : ℕ) (o : Option ℕ) → o ≡ Some count → Freed count s (acknowledged-by s rseq o)
 ack-by-frees s rseq count None e = absurd (never e)
@@ -391,26 +410,68 @@ log-only : (s : State) (event : Event) → Only-log s (logged s event)
 log-only s event =
     let h = kept-few (s .events) (s .event-room) event in
     record {
-      phase = refl; limit = refl; repeats = refl; place = refl; sent = refl; next = refl; accepted = refl; taken = refl;
-      named = refl; channels = refl; output = refl; window = refl; held = refl; capacities = refl; event-room = refl;
-      few = h .0; events = h .1;
+      phase = refl;
+      limit = refl;
+      repeats = refl;
+      place = refl;
+      sent = refl;
+      next = refl;
+      accepted = refl;
+      taken = refl;
+      named = refl;
+      channels = refl;
+      output = refl;
+      window = refl;
+      held = refl;
+      capacities = refl;
+      event-room = refl;
+      few = h .0;
+      events = h .1;
     }
 
 mark-log-only : (s : State) → Only-log s (logged (with-core s (tseq-marked (s .core))) TseqError)
 mark-log-only s =
     let h = kept-few (s .events) (s .event-room) TseqError in
     record {
-      phase = refl; limit = refl; repeats = refl; place = refl; sent = refl; next = refl; accepted = refl; taken = refl;
-      named = refl; channels = refl; output = refl; window = refl; held = refl; capacities = refl; event-room = refl;
-      few = h .0; events = h .1;
+      phase = refl;
+      limit = refl;
+      repeats = refl;
+      place = refl;
+      sent = refl;
+      next = refl;
+      accepted = refl;
+      taken = refl;
+      named = refl;
+      channels = refl;
+      output = refl;
+      window = refl;
+      held = refl;
+      capacities = refl;
+      event-room = refl;
+      few = h .0;
+      events = h .1;
     }
 
 same-only : (s : State) → Only-log s s
 same-only s =
     record {
-      phase = refl; limit = refl; repeats = refl; place = refl; sent = refl; next = refl; accepted = refl; taken = refl;
-      named = refl; channels = refl; output = refl; window = refl; held = refl; capacities = refl; event-room = refl;
-      few = []; events = sym (append-nil (s .events));
+      phase = refl;
+      limit = refl;
+      repeats = refl;
+      place = refl;
+      sent = refl;
+      next = refl;
+      accepted = refl;
+      taken = refl;
+      named = refl;
+      channels = refl;
+      output = refl;
+      window = refl;
+      held = refl;
+      capacities = refl;
+      event-room = refl;
+      few = [];
+      events = sym (append-nil (s .events));
     }
 
 note-tseq-only : (s : State) (b : Bool) → Only-log s (cond b s (logged (with-core s (tseq-marked (s .core))) TseqError))

@@ -49,8 +49,8 @@ new-core limit capacities =
       named = Vc3;
       «tseq_logged» = false;
       channels =
-        new-record (getD capacities 0 0) ∷ new-record (getD capacities 1 0)
-        ∷ new-record (getD capacities 2 0) ∷ new-record (getD capacities 3 0) ∷ [];
+          new-record (getD capacities 0 0) ∷ new-record (getD capacities 1 0)
+          ∷ new-record (getD capacities 2 0) ∷ new-record (getD capacities 3 0) ∷ [];
       counters = replicate 15 0;
     }
 

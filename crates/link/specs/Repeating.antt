@@ -45,7 +45,7 @@ shut-core c =
       named = c .named;
       «tseq_logged» = c .«tseq_logged»;
       channels =
-        closed (record-of c Vc0) ∷ closed (record-of c Vc1) ∷ closed (record-of c Vc2) ∷ closed (record-of c Vc3) ∷ [];
+          closed (record-of c Vc0) ∷ closed (record-of c Vc1) ∷ closed (record-of c Vc2) ∷ closed (record-of c Vc3) ∷ [];
       counters = c .counters;
     }
 

@@ -19,7 +19,8 @@ impl Sort {
             Kind::CreditOnly => Sort::Credit,
             Kind::Header | Kind::Admin => Sort::Afresh,
             Kind::Data => Sort::Onward,
-            Kind::Undefined11 | Kind::Undefined12 | Kind::Undefined13 | Kind::Undefined14 => Sort::Onward,
+            Kind::Undefined11 | Kind::Undefined12 | Kind::Undefined13 | Kind::Undefined14 =>
+                Sort::Onward,
         }
     }
 

@@ -63,7 +63,14 @@ impl End<'_> {
     }
 
     // A Header, Data or Admin with the check that goes with it.
-    pub(crate) fn body(&self, channel: Channel, kind: Kind, tail: bool, error: bool, content: [u8; 32]) -> Body
+    pub(crate) fn body(
+        &self,
+        channel: Channel,
+        kind: Kind,
+        tail: bool,
+        error: bool,
+        content: [u8; 32],
+    ) -> Body
         ensures { λ r. ⌜ r ≡ body-of (now (self .entry) .core) channel kind tail error content ⌝ }
     {
         let check = check_after(kind, self.core.record(channel).check_out, &content);
@@ -82,7 +89,9 @@ impl End<'_> {
         requires { ⌜ has-room (state-of (now self)) ≡ true ⌝ }
         ensures { λ _. ⌜ state-of (now (self .exit)) ≡ put (state-of (now (self .entry))) body left ⌝ }
     {
-        self.core.channels[index(body.channel)].spend(body.check, left);
+        self.core
+            .channels[index(body.channel)]
+            .spend(body.check, left);
         let _ = self.load(body);
     }
 }

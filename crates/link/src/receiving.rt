@@ -140,7 +140,9 @@ impl End<'_> {
     fn has_place(&self, channel: Channel) -> bool
         ensures { λ r. ⌜ r ≡ has-place (state-of (now (self .entry))) channel ⌝ }
     {
-        let free = self.buffers.capacity(channel).saturating_sub(self.buffers.len(channel));
+        let free = self.buffers
+            .capacity(channel)
+            .saturating_sub(self.buffers.len(channel));
         self.core.record(channel).slips < free
     }
 
