@@ -40,3 +40,6 @@ pub use sent::Sent;
 pub use slip::Slip;
 pub use slip::Taken;
 pub use standing::Standing;
+
+#[cfg(test)]
+mod tests;
