@@ -80,12 +80,14 @@ fn tell_all(from: &mut End, to: &mut End) -> bool {
 fn take_back(end: &mut End, channel: u64) -> bool {
     let mut content = [0; 32];
     match end.take(channel, &mut content) {
-        Ok(Taken {
-            kind: _,
-            tail: _,
-            error: _,
-            slip,
-        }) => match end.return_slip(slip) {
+        Ok(
+            Taken {
+                kind: _,
+                tail: _,
+                error: _,
+                slip,
+            },
+        ) => match end.return_slip(slip) {
             Ok(()) => true,
             Err((_, Slip { channel: _ })) => false,
         },
@@ -137,14 +139,8 @@ fn discarded_number_is_still_due() -> Result<(), Fail> {
     let mut frame = [0; 40];
     check(a.send(&mut frame).is_ok())?;
     frame[0] ^= 1;
-    check(matches!(
-        b.receive(&frame),
-        Ok(Answer::Discarded(Cause::Lcrc))
-    ))?;
-    check(matches!(
-        pass(&mut a, &mut b),
-        Some(Answer::Discarded(Cause::Tseq))
-    ))?;
+    check(matches!(b.receive(&frame), Ok(Answer::Discarded(Cause::Lcrc))))?;
+    check(matches!(pass(&mut a, &mut b), Some(Answer::Discarded(Cause::Tseq))))?;
     check(matches!(a.timeout(), Ok(Phase::Normal)))?;
     check(is_accepted(pass(&mut a, &mut b)))?;
     check(is_accepted(pass(&mut a, &mut b)))
@@ -165,9 +161,6 @@ fn running_check_stays_at_a_discard() -> Result<(), Fail> {
     let mut other = frame;
     other[0] ^= 1;
     check(seal(&mut other).is_ok())?;
-    check(matches!(
-        b.receive(&other),
-        Ok(Answer::Discarded(Cause::Ecrc))
-    ))?;
+    check(matches!(b.receive(&other), Ok(Answer::Discarded(Cause::Ecrc))))?;
     check(matches!(b.receive(&frame), Ok(Answer::Accepted)))
 }
