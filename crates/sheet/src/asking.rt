@@ -7,7 +7,6 @@ ghost use Rattle.std.specs.Vec.{made};
 ghost use Rattle.sheet.specs.Asks.{ask-of, kind-in, wire-line, fate-word, fates-in, fates-line, put-line, call-line, asked};
 ghost use Rattle.sheet.specs.Lines.{silent};
 ghost use Rattle.text.specs.Pieces.{words-of};
-
 use crate::coding::code_line;
 use crate::coding::decode_line;
 use crate::coding::lines_line;

@@ -1,7 +1,6 @@
 // The wire w, which a sheet calls by itself.
 ghost use mathlib.Core.Path.{_≡_};
 ghost use Rattle.sheet.specs.Desk.{wire-state, after-put, put-outcome, after-next, next-outcome};
-
 use crate::outcome::Outcome;
 use wire::AnyWire;
 use wire::AnyWireIs;

@@ -12,4 +12,3 @@ mod showing;
 mod verb;
 
 pub use running::replay;
-

@@ -4,7 +4,6 @@ ghost use mathlib.Core.List.{_++_};
 ghost use Rattle.std.specs.Of.String.{string-bytes};
 ghost use Rattle.std.specs.Vec.{made};
 ghost use Rattle.sheet.specs.Print.{shown-line};
-
 use crate::outcome::Outcome;
 use crate::showing::OutcomeDisplay;
 use std::alloc::AllocError;

@@ -10,7 +10,6 @@ ghost use Rattle.wire.specs.Anys.{any-frames};
 ghost use Rattle.sheet.specs.Asks.{ask-of};
 ghost use Rattle.sheet.specs.Desk.{any-room, room-of, wire-state, setup-wire, declared, called, outcome-in, after-ask, before-call, setup-after, places-of};
 ghost use Rattle.sheet.specs.Print.{prints-from, printed};
-
 use crate::asking::request;
 use crate::desk::next_of;
 use crate::desk::put_on;
@@ -76,7 +75,11 @@ fn places(kind: WireKind) -> usize
 }
 
 // A wire of a kind over lent memory.
-fn make_wire<'a>(kind: WireKind, frames: &'a mut [FrameBytes], groups: &'a mut [LineGroups; 16]) -> AnyWire<'a>
+fn make_wire<'a>(
+    kind: WireKind,
+    frames: &'a mut [FrameBytes],
+    groups: &'a mut [LineGroups; 16],
+) -> AnyWire<'a>
     ensures empty { λ r. ⌜ any-frames r ≡ [] ⌝ }
     ensures room { λ r. ⌜ (length (now (frames .entry)) ≡ places-of kind → any-room r ≡ room-of kind) ⌝ }
 {
@@ -88,7 +91,12 @@ fn make_wire<'a>(kind: WireKind, frames: &'a mut [FrameBytes], groups: &'a mut [
 }
 
 // Carries out the lines before the first call, and answers how many they are.
-fn run_declarations(heap: Global, out: &mut String, pieces: &[&[u8]], setup: &mut Setup) -> Result<usize, AllocError>
+fn run_declarations(
+    heap: Global,
+    out: &mut String,
+    pieces: &[&[u8]],
+    setup: &mut Setup,
+) -> Result<usize, AllocError>
     ensures { λ r. ⌜ made r (λ i. string-bytes (now (out .exit)) ++ prints-from (i + 1) (called (setup-wire (now (setup .exit)))) (map now (drop i (now (pieces .entry)))) ≡ string-bytes (now (out .entry)) ++ prints-from 1 (declared (setup-wire (now (setup .entry)))) (map now (now (pieces .entry)))) ⌝ }
 {
     for (i, line) in pieces.iter().enumerate() {
@@ -127,18 +135,28 @@ fn blank_frames(heap: Global, count: usize) -> Result<Vec<FrameBytes>, AllocErro
 }
 
 // Makes what the sheet declared, and carries out the lines from the first call on.
-fn run_made(heap: Global, out: &mut String, pieces: &[&[u8]], from: usize, setup: &Setup) -> Result<(), AllocError>
+fn run_made(
+    heap: Global,
+    out: &mut String,
+    pieces: &[&[u8]],
+    from: usize,
+    setup: &Setup,
+) -> Result<(), AllocError>
     ensures { λ r. ⌜ made r (λ _. string-bytes (now (out .exit)) ≡ string-bytes (now (out .entry)) ++ prints-from (from + 1) (called (setup-wire (now (setup .entry)))) (map now (drop from (now (pieces .entry))))) ⌝ }
 {
     let mut frames = blank_frames(heap, places(setup.wire))?;
     let mut groups = [[0; 80]; 16];
-    let mut wire = Fault::new(make_wire(setup.wire, &mut frames, &mut groups), &setup.fates);
+    let mut wire = Fault::new(
+        make_wire(setup.wire, &mut frames, &mut groups),
+        &setup.fates,
+    );
     run_calls(heap, out, pieces, from, &mut wire)?;
     Ok(())
 }
 
 // How the three ends stand when the sheet is over: nothing can be called at an end yet.
-const CLOSING: &str = "a loaded 0 accepted 0 messages 0 Normal\nb loaded 0 accepted 0 messages 0 Normal\nc loaded 0 accepted 0 messages 0 Normal\n";
+const CLOSING: &str =
+    "a loaded 0 accepted 0 messages 0 Normal\nb loaded 0 accepted 0 messages 0 Normal\nc loaded 0 accepted 0 messages 0 Normal\n";
 
 // The print of a sheet.
 pub fn replay(heap: Global, sheet: &[u8]) -> Result<String, AllocError>
