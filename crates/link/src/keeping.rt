@@ -2,7 +2,7 @@
 ghost use mathlib.Core.Path.{_≡_};
 ghost use mathlib.Core.List.{[], _∷_};
 ghost use lib.ListN.{length};
-ghost use Rattle.link.specs.Laws.{Held-unchanged, Loads-one, Refused-unchanged, Credit-figures};
+ghost use Rattle.link.specs.Laws.{Held-unchanged, Loads-one, Refused-unchanged, Update-changes-one, Credit-figures};
 ghost use Rattle.link.specs.Numbering.{window-over};
 ghost use Rattle.link.specs.Records.{capacity-over, new-record, new-core, record-of};
 ghost use Rattle.link.specs.Standings.{rseq-of, standing-of};
@@ -103,6 +103,7 @@ impl<'a> End<'a> {
         ensures held { λ _. ⌜ Held-unchanged ⌝ }
         ensures loads { λ _. ⌜ Loads-one ⌝ }
         ensures refused { λ _. ⌜ Refused-unchanged ⌝ }
+        ensures update { λ _. ⌜ Update-changes-one ⌝ }
         ensures figures { λ _. ⌜ Credit-figures ⌝ }
     {
         let buffers = Buffers::new(vc0, vc1, vc2, vc3);
