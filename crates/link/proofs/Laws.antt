@@ -5,7 +5,7 @@ use mathlib.Core.List.{List, [], _∷_, _++_, append-nil, map}
 use Prim.Native.Nat.{ℕ, _+_, _-_, _≤_}
 use lib.Dec.{eqb, leb, ltb}
 use lib.ListN.{length, drop, take}
-use lib.Seq.{drop-length, drop-drop}
+use lib.Seq.{drop-length, drop-drop, getD-set-other}
 use native.Mathlib.Omega.{arith}
 use borrow.Author.Tests.{eqb-true}
 use Rattle.std.specs.declared.option.Option.{Option}
@@ -35,7 +35,11 @@ use Rattle.link.specs.declared.event.Event.{Event}
 use Rattle.link.specs.declared.event.Event.the-variants.{LcrcError, TseqError, EcrcError, RetryCount, RetryFailureError, RseqOutOfRangeError, RseqMissingError, CreditOverflow, BufferOverflow}
 use Rattle.link.specs.Acknowledging.{freed-by, freed-front, acknowledged-by, acknowledged, credited, oldest-of}
 use Rattle.link.specs.Calls.{Call, opens, adds, cuts, admins, sends, receives, times-out, takes, returns, reads-event, step, refusal-in, refusal-of, Loads}
-use Rattle.link.specs.Laws.{Shifted, Held-unchanged, Appended, Loads-one, Refused-unchanged, Only-log, Discarded-logs, Freed, Legal-frees, numbers-held, Legal-by-number, Credit-figures}
+use Rattle.frame.specs.Naming.{channel-number}
+use Rattle.link.specs.declared.record.Core.{Core}
+use Rattle.link.specs.Credit.{next-waiting, told-off, updated-at}
+use Rattle.link.specs.Records.{no-record, record-of}
+use Rattle.link.specs.Laws.{Shifted, Held-unchanged, Appended, Loads-one, Refused-unchanged, Only-log, Discarded-logs, Freed, Legal-frees, numbers-held, Legal-by-number, Update-changes-one, Credit-figures}
 use Rattle.link.specs.Loading.{body-of, put, loaded, has-room}
 use Rattle.link.specs.Log.{kept, logged, or-nothing}
 use Rattle.link.specs.Numbering.{numbers, no-number}
@@ -50,6 +54,21 @@ use Rattle.link.specs.Taking.{take-after, take-found, return-after, return-ref
 
 pub credit-figures : Credit-figures
 credit-figures = record { first = λ limit. refl; second = λ limit. refl; third = λ limit. refl }
+
+-- a credit update
+update-at-one :
+    (c : Core) (channel other : Channel) (o : Option Channel) →
+    o ≡ Some channel →
+    (channel-number other ≡ channel-number channel → ⊥) →
+    record-of (updated-at c o) other ≡ record-of c other
+update-at-one c channel other None e apart = let z : _≡_ {A = ℕ} 0 1 = cc in absurd (omega arith)
+update-at-one c channel other (Some named) e apart =
+    let z : named ≡ channel = cc in
+    getD-set-other (c .channels) (channel-number named) (channel-number other) (told-off (record-of c named)) no-record
+    (λ same. apart (same ∙ ap channel-number z))
+
+pub update-changes-one : Update-changes-one
+update-changes-one c channel other e apart = update-at-one c channel other (next-waiting c) e apart
 
 -- a first part is gone
 record Shed (before after : List Micropacket) : Type 0 where

@@ -15,7 +15,7 @@ use Rattle.link.specs.declared.record.ChannelRecord.{ChannelRecord}
 use Rattle.link.specs.declared.record.Core.{Core}
 use Rattle.link.specs.Log.{logged}
 use Rattle.link.specs.Numbering.{numbers, no-number}
-use Rattle.link.specs.Records.{record-of, with-record}
+use Rattle.link.specs.Records.{most-credit, record-of, with-record}
 use Rattle.link.specs.Repeating.{repeated, shut-down}
 use Rattle.link.specs.States.{State, with-core, with-output}
 
@@ -66,7 +66,7 @@ acknowledged s rseq = cond (eqb rseq no-number) s (acknowledged-by s rseq (freed
 abbrev pub gained : ChannelRecord → ℕ → ChannelRecord
 gained r cr =
     record {
-      credit = min (r .credit + cr) 255;
+      credit = min (r .credit + cr) most-credit;
       waiting = r .waiting;
       slips = r .slips;
       left = r .left;
@@ -74,10 +74,10 @@ gained r cr =
       «check_in» = r .«check_in»;
     }
 
--- credit is read: what would pass 255 is not taken, is logged and shuts down
+-- credit is read: what would pass the most there can be is not taken, is logged and shuts down
 unfoldable pub credited : State → Channel → ℕ → State
 credited s channel cr =
-    cond (ltb 255 (record-of (s .core) channel .credit + cr))
+    cond (ltb most-credit (record-of (s .core) channel .credit + cr))
     (shut-down (logged s (CreditOverflow channel)))
     (with-core s (with-record (s .core) channel (gained (record-of (s .core) channel) cr)))
 

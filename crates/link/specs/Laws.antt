@@ -11,6 +11,7 @@ use Rattle.std.specs.declared.result.Result.the-variants.{Ok}
 use Rattle.frame.specs.declared.channel.Channel.{Channel}
 use Rattle.frame.specs.declared.channel.Channel.the-variants.{Vc0, Vc2}
 use Rattle.frame.specs.declared.refusal.Refusal.{Refusal}
+use Rattle.frame.specs.Naming.{channel-number}
 use Rattle.numbers.specs.Laws.{Held}
 use Rattle.numbers.specs.Round.{Consecutive, freed-among}
 use Rattle.link.specs.declared.answer.Answer.the-variants.{Discarded}
@@ -21,11 +22,11 @@ use Rattle.link.specs.declared.record.ChannelRecord.{ChannelRecord}
 use Rattle.link.specs.declared.record.Core.{Core}
 use Rattle.link.specs.Acknowledging.{freed-by, acknowledged, oldest-of}
 use Rattle.link.specs.Calls.{Call, step, refusal-of, Loads, receives}
-use Rattle.link.specs.Credit.{update-of, updated}
+use Rattle.link.specs.Credit.{next-waiting, update-of, updated}
 use Rattle.link.specs.Log.{kept}
 use Rattle.link.specs.Numbering.{numbers, no-number}
 use Rattle.link.specs.Receiving.{receive-answer}
-use Rattle.link.specs.Records.{new-core}
+use Rattle.link.specs.Records.{new-core, record-of}
 use Rattle.link.specs.States.{State}
 
 -- some of the oldest leave, at most one is appended, and what stays is as it was
@@ -112,6 +113,13 @@ Legal-by-number =
     → s .core .sent ≤ length (numbers-held s)
     → Consecutive numbers count (numbers-held s)
     → freed-by s rseq ≡ freed-among (s .core .taken) (take (s .core .sent) (numbers-held s)) rseq
+
+-- a credit update changes the record of the channel that it names, and no other
+abbrev pub Update-changes-one : Type 0
+Update-changes-one =
+    (c : Core) (channel other : Channel) → next-waiting c ≡ Some channel
+    → (channel-number other ≡ channel-number channel → ⊥)
+    → record-of (updated c) other ≡ record-of c other
 
 abbrev pub waiting-figures : List ℕ
 waiting-figures = 70 ∷ 0 ∷ 5 ∷ 0 ∷ []

@@ -14,6 +14,14 @@ use Rattle.link.specs.declared.phase.Phase.the-variants.{Normal, Shutdown}
 use Rattle.link.specs.declared.record.ChannelRecord.{ChannelRecord}
 use Rattle.link.specs.declared.record.Core.{Core}
 
+-- the most credit that a channel can have, and so the largest capacity
+abbrev pub most-credit : ℕ
+most-credit = 255
+
+-- the capacity of a channel's buffer over so many elements
+abbrev pub capacity-over : ℕ → ℕ
+capacity-over elements = min most-credit elements
+
 -- the register that an end-to-end check begins with
 abbrev pub check-start : ℕ
 check-start = 0xFFFF

@@ -2,11 +2,12 @@
 ghost use mathlib.Core.Path.{_≡_};
 ghost use mathlib.Core.Bool.{cond};
 ghost use mathlib.Core.List.{[], _∷_, _++_};
-ghost use Prim.Native.Nat.{_<_, min};
+ghost use Prim.Native.Nat.{_<_};
 ghost use lib.Dec.{ltb};
 ghost use lib.ListN.{length, getD, set, drop};
 ghost use Rattle.std.specs.shelf.Maps.{nth};
 ghost use Rattle.frame.specs.Naming.{channel-number};
+ghost use Rattle.link.specs.Records.{capacity-over};
 ghost use Rattle.link.specs.States.{buffers-held, buffers-room};
 use crate::buffers::Buffers;
 use crate::micropacket::Held;
@@ -38,7 +39,7 @@ impl<'a> Buffers<'a> {
         vc3: &'a mut [Held],
     ) -> Buffers<'a>
         ensures items { λ r. ⌜ buffers-held r ≡ [] ∷ [] ∷ [] ∷ [] ∷ [] ⌝ }
-        ensures bound { λ r. ⌜ buffers-room r ≡ min 255 (length (now (vc0 .entry))) ∷ min 255 (length (now (vc1 .entry))) ∷ min 255 (length (now (vc2 .entry))) ∷ min 255 (length (now (vc3 .entry))) ∷ [] ⌝ }
+        ensures bound { λ r. ⌜ buffers-room r ≡ capacity-over (length (now (vc0 .entry))) ∷ capacity-over (length (now (vc1 .entry))) ∷ capacity-over (length (now (vc2 .entry))) ∷ capacity-over (length (now (vc3 .entry))) ∷ [] ⌝ }
     {
         let most = MOST_CREDIT as usize;
         Buffers {

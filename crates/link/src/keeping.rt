@@ -1,10 +1,10 @@
 // Making an end, and what can be seen of it.
 ghost use mathlib.Core.Path.{_≡_};
 ghost use mathlib.Core.List.{[], _∷_};
-ghost use Prim.Native.Nat.{min};
 ghost use lib.ListN.{length};
-ghost use Rattle.link.specs.Laws.{Held-unchanged, Loads-one, Refused-unchanged, Credit-figures};
-ghost use Rattle.link.specs.Records.{new-record, new-core, record-of};
+ghost use Rattle.link.specs.Laws.{Held-unchanged, Loads-one, Refused-unchanged, Update-changes-one, Credit-figures};
+ghost use Rattle.link.specs.Numbering.{window-over};
+ghost use Rattle.link.specs.Records.{capacity-over, new-record, new-core, record-of};
 ghost use Rattle.link.specs.Standings.{rseq-of, standing-of};
 ghost use Rattle.link.specs.States.{new-state, state-of};
 use crate::buffers::Buffers;
@@ -99,10 +99,11 @@ impl<'a> End<'a> {
         events: &'a mut [Event],
         limit: u8,
     ) -> End<'a>
-        ensures made { λ r. ⌜ state-of r ≡ new-state limit (min 254 (length (now (output .entry)))) (min 255 (length (now (vc0 .entry))) ∷ min 255 (length (now (vc1 .entry))) ∷ min 255 (length (now (vc2 .entry))) ∷ min 255 (length (now (vc3 .entry))) ∷ []) (length (now (events .entry))) ⌝ }
+        ensures made { λ r. ⌜ state-of r ≡ new-state limit (window-over (length (now (output .entry)))) (capacity-over (length (now (vc0 .entry))) ∷ capacity-over (length (now (vc1 .entry))) ∷ capacity-over (length (now (vc2 .entry))) ∷ capacity-over (length (now (vc3 .entry))) ∷ []) (length (now (events .entry))) ⌝ }
         ensures held { λ _. ⌜ Held-unchanged ⌝ }
         ensures loads { λ _. ⌜ Loads-one ⌝ }
         ensures refused { λ _. ⌜ Refused-unchanged ⌝ }
+        ensures update { λ _. ⌜ Update-changes-one ⌝ }
         ensures figures { λ _. ⌜ Credit-figures ⌝ }
     {
         let buffers = Buffers::new(vc0, vc1, vc2, vc3);
