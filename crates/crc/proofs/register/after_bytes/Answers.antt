@@ -11,7 +11,7 @@ loop-b-preserved g c =
     let F = through g.C.Check.generator in
     let xs = c.args.bytes.now in
     let i = c.loop-b.b-index in
-    let one = c.after-byte-at.ensures in
+    let one = c.after_byte-at.ensures in
     let more = at_drop_more (F c.loop-b.at) xs i 0 (omega arith) in
     let inv = c.loop-b.invariant in
     cc

@@ -7,8 +7,8 @@ pub returns : goal.returns
 returns g c =
     let G = g.C.Check.generator in
     let check = c.args.check in
-    let low = c.after-byte-low.ensures in
-    let high = c.after-byte.ensures in
+    let low = c.after_byte-low.ensures in
+    let high = c.after_byte.ensures in
     let both = two_bytes G c.args.register check in
     record {
       value = cc;

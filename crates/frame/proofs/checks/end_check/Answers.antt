@@ -9,5 +9,5 @@ returns-then-content-ne32 c = record { value = search rules; flip = one_bit_show
 pub returns : goal.returns
 unfolding end_check
 returns c =
-    let v = c.after-bytes.ensures.value in
+    let v = c.after_bytes.ensures.value in
     record { value = search rules; flip = one_bit_shows 0xD008 (lit≤ tt) (lit< tt) }

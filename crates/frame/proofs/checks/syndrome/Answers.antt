@@ -10,6 +10,6 @@ returns-then-frame-ne40 c =
 pub returns : goal.returns
 unfolding syndrome_of
 returns c =
-    let v = c.left-over.ensures.value in
-    let w = c.register-over.ensures in
+    let v = c.left_over.ensures.value in
+    let w = c.register_over.ensures in
     record { value = search rules; good = good_is_zero; stomped = stomped_is_06A9; flip = frame_bit_shows }

@@ -11,5 +11,5 @@ returns-then-group-ge32 c =
 
 pub returns : goal.returns
 returns c =
-    let e : Ok c.code-of.result ≡ decoding c.args.group = search rules in
+    let e : Ok c.code_of.result ≡ decoding c.args.group = search rules in
     record { is = e; undoes = λ code count h w. e ∙ decodes code c.args.group count h w }

@@ -8,13 +8,13 @@ use Rattle.line.proofs.Bytes.{byte}
 use Rattle.line.proofs.Passes.{all_get}
 use Rattle.line.proofs.groups.gather.Goals as goal
 
-pub code-of-requires : goal.code-of-requires
-code-of-requires c =
-    ltb-true _ 32 (all_get is_word c.args.groups.now c.groups-of-low.result.0 0 refl c.requires.words)
+pub code_of-requires : goal.code_of-requires
+code_of-requires c =
+    ltb-true _ 32 (all_get is_word c.args.groups.now c.groups_of-low.result.0 0 refl c.requires.words)
 
-pub code-of-requires-in-loop-b : goal.code-of-requires-in-loop-b
-code-of-requires-in-loop-b c =
-    ltb-true _ 32 (all_get is_word c.args.groups.now c.groups-of-low.result.1 0 refl c.requires.words)
+pub code_of-requires-in-loop-b : goal.code_of-requires-in-loop-b
+code_of-requires-in-loop-b c =
+    ltb-true _ 32 (all_get is_word c.args.groups.now c.groups_of-low.result.1 0 refl c.requires.words)
 
 pub loop-b-preserved : goal.loop-b-preserved
 loop-b-preserved c =
@@ -23,14 +23,14 @@ loop-b-preserved c =
     let frame = c.loop-b.frame in
     let b = c.loop-b.b in
     let F : ℕ → ℕ = λ k. number 8 (λ j. group_bit groups (place w (8 * k + j))) in
-    let x = c.code-of.result in
-    let y = c.code-of-in-loop-b.result in
+    let x = c.code_of.result in
+    let y = c.code_of-in-loop-b.result in
     let p : x ≡ decoded (get_or groups (group_at w (2 * b)) 0) =
-    c.code-of.ensures.is ∙ ap (λ (m : ℕ). decoded (get_or groups m 0)) c.groups-of-low.ensures.low in
+    c.code_of.ensures.is ∙ ap (λ (m : ℕ). decoded (get_or groups m 0)) c.groups_of-low.ensures.low in
     let q : y ≡ decoded (get_or groups (group_at w (2 * b + 1)) 0) =
-    c.code-of-in-loop-b.ensures.is ∙ ap (λ (m : ℕ). decoded (get_or groups m 0)) c.groups-of-low.ensures.high in
-    let small = subst (λ (m : ℕ). m < 16) p c.code-of.ensures.small in
-    let small-too = subst (λ (m : ℕ). m < 16) q c.code-of-in-loop-b.ensures.small in
+    c.code_of-in-loop-b.ensures.is ∙ ap (λ (m : ℕ). decoded (get_or groups m 0)) c.groups_of-low.ensures.high in
+    let small = subst (λ (m : ℕ). m < 16) p c.code_of.ensures.small in
+    let small-too = subst (λ (m : ℕ). m < 16) q c.code_of-in-loop-b.ensures.small in
     let e : x + 16 * y ≡ F b =
     ap₂ (λ (m n : ℕ). m + 16 * n) p q ∙ sym (byte w groups b (omega arith) small small-too) in
     λ k h.

@@ -13,8 +13,8 @@ lines_most : (w : Width) → lines w < 21
 lines_most Wide = omega arith
 lines_most Narrow = omega arith
 
-pub code-each-requires : goal.code-each-requires
-code-each-requires g c =
+pub code_each-requires : goal.code_each-requires
+code_each-requires g c =
     let codes : (k : ℕ) → get_or c.spread.new.groups k 0 < 16 =
     λ k. subst (λ (xs : List ℕ). get_or xs k 0 < 16) (sym c.spread.ensures) (code_small c.args.width c.args.frame.now k) in
     let some = lines_some c.args.width in

@@ -4,8 +4,8 @@ use Rattle.numbers.proofs.Calls.{found, frees, illegal}
 use Rattle.numbers.proofs.Copies.{figures}
 use Rattle.numbers.proofs.acknowledgement.freed.Goals as goal
 
-pub returns-then-is-taken : goal.returns-then-is-taken
-returns-then-is-taken c =
+pub returns-then-is_taken : goal.returns-then-is_taken
+returns-then-is_taken c =
     let a = c.args in
     let e : Some 0 ≡ freed_at_once a.modulus a.last a.oldest a.ever a.rseq = search rules in
     record {
@@ -16,10 +16,10 @@ returns-then-is-taken c =
       figures = figures;
     }
 
-pub returns-else-is-taken : goal.returns-else-is-taken
-returns-else-is-taken c =
+pub returns-else-is_taken : goal.returns-else-is_taken
+returns-else-is_taken c =
     let a = c.args in
-    let e : c.place-from.result ≡ freed_at_once a.modulus a.last a.oldest a.ever a.rseq = search rules in
+    let e : c.place_from.result ≡ freed_at_once a.modulus a.last a.oldest a.ever a.rseq = search rules in
     record {
       value = e;
       found = found a.modulus a.oldest a.ever a.rseq a.last _ e;

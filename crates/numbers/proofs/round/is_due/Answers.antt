@@ -8,5 +8,5 @@ returns c =
     let M = c.args.modulus in
     let n = c.args.tseq in
     let last = c.args.last in
-    let e : eqb n c.due-after.result ≡ eqb n (due M last) = search rules in
+    let e : eqb n c.due_after.result ≡ eqb n (due M last) = search rules in
     record { value = e; right = right M n last _ e }

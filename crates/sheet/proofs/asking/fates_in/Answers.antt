@@ -17,7 +17,7 @@ loop-w-preserved c =
     let fates = vec_items c.loop-w.fates in
     let rest = map (λ x. x.now) (drop (c.loop-w.w-index + 1) c.args.words.now) in
     let one = one_word c.loop-w.flip fates c.args.words.now c.loop-w.w-index (record { ref_ptr = (0, 0); now = [] }) (omega arith) in
-    elim c.match-fate-word.branch [
+    elim c.match-fate_word.branch [
       | in-Opens w ↦
           let so_far = ap (λ (x : FateWord). behind x fates rest) w.in-Opens.ensures ∙ sym one ∙ c.loop-w.invariant in
           let a = w.fates-is in

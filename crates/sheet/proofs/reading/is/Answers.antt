@@ -7,6 +7,6 @@ use Rattle.std.proofs.lemmas.Bool.Decides.{Decides-eqb}
 pub returns : goal.returns
 unfolding says
 returns c =
-    let decides = slice_eq-Decides Decides-eqb c.args.word.now c.as-bytes.result.now c.eq.result c.eq.ensures in
-    let text = c.as-bytes.ensures.value in
+    let decides = slice_eq-Decides Decides-eqb c.args.word.now c.as_bytes.result.now c.eq.result c.eq.ensures in
+    let text = c.as_bytes.ensures.value in
     search (rules, bytes_eq-Decides)

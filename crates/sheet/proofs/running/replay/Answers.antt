@@ -8,4 +8,4 @@ unfolding closing
 returns c =
     whole_print c.args.sheet.now _ _ _ _ (vec_items c.in-ok-pieces.pieces) c.deref.result.now c.deref-2.result.now (vec_items c.new.result)
     c.in-ok-from.from _ c.in-ok-pieces.ensures.are c.deref.ensures.value c.deref-2.ensures.value c.new-out.ensures.bytes
-    c.new.ensures.items c.in-ok-from.ensures c.in-ok-run-made.ensures c.in-ok-push-str.ensures.bytes
+    c.new.ensures.items c.in-ok-from.ensures c.in-ok-run_made.ensures c.in-ok-push_str.ensures.bytes

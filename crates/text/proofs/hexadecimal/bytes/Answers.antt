@@ -3,10 +3,10 @@ use Rattle.text.proofs.HexShown.{bytes_back}
 use Rattle.text.proofs.hexadecimal.bytes.Goals as goal
 
 pub returns-in-empty : goal.returns-in-empty
-returns-in-empty c = record { value = search rules; reads-back = bytes_back }
+returns-in-empty c = record { value = search rules; reads_back = bytes_back }
 
 pub returns-in-45 : goal.returns-in-45
-returns-in-45 c = record { value = search rules; reads-back = bytes_back }
+returns-in-45 c = record { value = search rules; reads_back = bytes_back }
 
 pub returns-in-default : goal.returns-in-default
-returns-in-default c = record { value = search rules; reads-back = bytes_back }
+returns-in-default c = record { value = search rules; reads_back = bytes_back }

@@ -8,8 +8,8 @@ returns-in-None c = no_pair _ _ _ c.loop-rest.invariant (search rules) (sym c.in
 pub loop-rest-preserved : goal.loop-rest-preserved
 loop-rest-preserved c = pair_more _ _ _ c.loop-rest.invariant _ _ (search rules) (sym c.in-Some.ensures) c.in-ok-push.ensures.items
 
-pub returns-then-is-empty : goal.returns-then-is-empty
-returns-then-is-empty c = all_pairs _ _ _ c.loop-rest.invariant (true-eqb _ 0 c.if-is-empty.ensures)
+pub returns-then-is_empty : goal.returns-then-is_empty
+returns-then-is_empty c = all_pairs _ _ _ c.loop-rest.invariant (true-eqb _ 0 c.if-is_empty.ensures)
 
-pub returns-else-is-empty : goal.returns-else-is-empty
-returns-else-is-empty c = odd_digit _ _ _ c.loop-rest.invariant (false-eqb _ 0 c.if-is-empty.ensures) (search rules)
+pub returns-else-is_empty : goal.returns-else-is_empty
+returns-else-is_empty c = odd_digit _ _ _ c.loop-rest.invariant (false-eqb _ 0 c.if-is_empty.ensures) (search rules)

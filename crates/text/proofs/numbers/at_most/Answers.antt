@@ -2,11 +2,11 @@ use Rattle.std.proofs.Common.{sym, ◌∙◌, arith, true-eqb, false-eqb}
 use Rattle.text.proofs.Decimal.{stops, too_far, one_more, all_read, inside, bounded, no_number, is_number}
 use Rattle.text.proofs.numbers.at_most.Goals as goal
 
-pub returns-then-is-empty : goal.returns-then-is-empty
-returns-then-is-empty c = record { value = no_number _ _ (true-eqb _ 0 c.if-is-empty.ensures); bound = tt }
+pub returns-then-is_empty : goal.returns-then-is_empty
+returns-then-is_empty c = record { value = no_number _ _ (true-eqb _ 0 c.if-is_empty.ensures); bound = tt }
 
 pub loop-c-init : goal.loop-c-init
-loop-c-init c = (omega arith, is_number _ _ (false-eqb _ 0 c.if-is-empty.ensures))
+loop-c-init c = (omega arith, is_number _ _ (false-eqb _ 0 c.if-is_empty.ensures))
 
 pub returns-in-err-digit : goal.returns-in-err-digit
 returns-in-err-digit c =

@@ -6,7 +6,7 @@ use Rattle.text.proofs.writing.spelled.Goals as goal
 pub loop-i-preserved : goal.loop-i-preserved
 loop-i-preserved c = (
   simp length-set c.loop-i.invariant.0,
-  spelled_more _ _ _ _ _ c.loop-i-test.true (omega arith) c.lower-digit.ensures c.lower-digit-in-loop-i.ensures c.loop-i.invariant.1,
+  spelled_more _ _ _ _ _ c.loop-i-test.true (omega arith) c.lower_digit.ensures c.lower_digit-in-loop-i.ensures c.loop-i.invariant.1,
 )
 
 pub returns : goal.returns

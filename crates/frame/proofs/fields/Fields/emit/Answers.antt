@@ -15,8 +15,8 @@ returns c =
     record {
       value = search rules;
       bytes =
-          placed c.copy-from-slice.new.self _ c.copy-from-slice-2.new.self (omega (arith, c.copy-from-slice.ensures.len)) (simp length-drop (omega arith))
-          ∙ ap₂ (λ (p q : List ℕ). p ++ q) c.copy-from-slice.ensures.after (c.copy-from-slice-2.ensures.after ∙ c.trailer.ensures)
+          placed c.copy_from_slice.new.self _ c.copy_from_slice-2.new.self (omega (arith, c.copy_from_slice.ensures.len)) (simp length-drop (omega arith))
+          ∙ ap₂ (λ (p q : List ℕ). p ++ q) c.copy_from_slice.ensures.after (c.copy_from_slice-2.ensures.after ∙ c.trailer.ensures)
           ∙ ap (λ o. emitted o f content frame) (sym passes);
       back = fields_come_back;
       figures = control_figures;

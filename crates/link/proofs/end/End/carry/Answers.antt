@@ -2,10 +2,10 @@ use Rattle.std.proofs.Common.{rules}
 use Rattle.link.specs.Receiving.{carried_in}
 use Rattle.link.proofs.end.End.carry.Goals as goal
 
-pub returns-then-has-place : goal.returns-then-has-place
+pub returns-then-has_place : goal.returns-then-has_place
 unfolding carried_in
-returns-then-has-place c = search rules
+returns-then-has_place c = search rules
 
-pub returns-else-has-place : goal.returns-else-has-place
+pub returns-else-has_place : goal.returns-else-has_place
 unfolding carried_in
-returns-else-has-place c = search rules
+returns-else-has_place c = search rules

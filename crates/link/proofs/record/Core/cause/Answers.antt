@@ -14,13 +14,13 @@ pub returns-then-r-ne0 : goal.returns-then-r-ne0
 unfolding cause_of
 returns-then-r-ne0 c = search rules
 
-pub returns-then-not-in-turn : goal.returns-then-not-in-turn
+pub returns-then-not-in_turn : goal.returns-then-not-in_turn
 unfolding cause_of
-returns-then-not-in-turn c = search rules
+returns-then-not-in_turn c = search rules
 
-pub returns-then-not-end-right : goal.returns-then-not-end-right
+pub returns-then-not-end_right : goal.returns-then-not-end_right
 unfolding cause_of
-returns-then-not-end-right c = search rules
+returns-then-not-end_right c = search rules
 
 pub returns : goal.returns
 unfolding cause_of

@@ -8,4 +8,4 @@ use Rattle.text.proofs.writing.HexDigitDisplay.fmt.Goals as goal
 pub returns-clause-writes : goal.returns-clause-writes
 returns-clause-writes g c plain ok =
     let d : ℕ = c.args.self.now.0 % 16 in
-    has_written_of_eq _ _ _ _ _ (encode_ascii (upper d) (upper_ascii d (omega arith))) (c.write-char.ensures.writes plain ok)
+    has_written_of_eq _ _ _ _ _ (encode_ascii (upper d) (upper_ascii d (omega arith))) (c.write_char.ensures.writes plain ok)

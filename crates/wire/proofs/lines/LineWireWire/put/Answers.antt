@@ -4,30 +4,30 @@ use Rattle.wire.specs.declared.lines.LineWire.{LineWire}
 use Rattle.wire.proofs.Queues.{line_put, line_own}
 use Rattle.wire.proofs.lines.LineWireWire.put.Goals as goal
 
-pub returns-then-push-back : goal.returns-then-push-back
-returns-then-push-back c =
+pub returns-then-push_back : goal.returns-then-push_back
+returns-then-push_back c =
     let frame = c.args.frame.now in
     let before : LineWire = c.args.self.now in
-    let after : LineWire = record { counts = c.code-counts.result; queue = c.push-back.new.self } in
+    let after : LineWire = record { counts = c.code-counts.result; queue = c.push_back.new.self } in
     let whole : length frame ≡ 40 = search rules in
     let same : c.in-ok-bytes.bytes ≡ frame = search rules in
     let coded = rw same at c.code-counts.ensures in
-    let told = c.if-push-back.ensures in
+    let told = c.if-push_back.ensures in
     record {
       answer = search rules;
       list = line_put before after frame c.code-counts.new.groups c.code-counts.result whole coded true told.test told.items refl;
       own = line_own before after frame c.code-counts.new.groups c.code-counts.result whole coded true told.test told.items refl told.same;
     }
 
-pub returns-else-push-back : goal.returns-else-push-back
-returns-else-push-back c =
+pub returns-else-push_back : goal.returns-else-push_back
+returns-else-push_back c =
     let frame = c.args.frame.now in
     let before : LineWire = c.args.self.now in
-    let after : LineWire = record { counts = c.args.self.now.counts; queue = c.push-back.new.self } in
+    let after : LineWire = record { counts = c.args.self.now.counts; queue = c.push_back.new.self } in
     let whole : length frame ≡ 40 = search rules in
     let same : c.in-ok-bytes.bytes ≡ frame = search rules in
     let coded = rw same at c.code-counts.ensures in
-    let told = c.if-push-back.ensures in
+    let told = c.if-push_back.ensures in
     record {
       answer = search rules;
       list = line_put before after frame c.code-counts.new.groups c.code-counts.result whole coded false told.test told.items refl;
