@@ -1,4 +1,6 @@
 // Replays each sheet that an argument names and holds its print to the stored one.
+#![tactic(auto)]
+
 use std::{env, fs};
 
 fn stored(rt: &HostRuntime, name: &str, ending: &str) -> anyhow::Result<Vec<u8>> {

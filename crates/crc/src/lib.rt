@@ -1,4 +1,6 @@
 // Checks of 16 bits over bytes: one kind, two generators.
+#![tactic(auto)]
+
 mod check;
 mod end_to_end;
 mod link;

@@ -1,4 +1,6 @@
 // The frame of a micropacket: why a call is refused, TYPE values, fields and bytes, and the two checks.
+#![tactic(auto)]
+
 mod channel;
 mod checks;
 mod codec;

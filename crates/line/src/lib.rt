@@ -1,4 +1,6 @@
 // A frame on the signal lines: the code of a group of four bits, where each bit of a frame stands, and the groups of a frame.
+#![tactic(auto)]
+
 mod code;
 mod counts;
 mod groups;

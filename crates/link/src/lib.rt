@@ -1,4 +1,6 @@
 // One end of a link: what it loads, sends, receives, repeats and keeps count of.
+#![tactic(auto)]
+
 mod acknowledging;
 mod answer;
 mod body;

@@ -1,5 +1,7 @@
 // What the micropackets of a Message are, for those that load a Message and those that read one, and a reader that
 // puts Messages together again.
+#![tactic(auto)]
+
 mod copying;
 mod heading;
 mod making;

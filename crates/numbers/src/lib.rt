@@ -1,4 +1,6 @@
 // Numbers that come round, for every count of them.
+#![tactic(auto)]
+
 mod acknowledgement;
 mod round;
 mod window;

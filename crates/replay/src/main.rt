@@ -1,4 +1,6 @@
 // Reads a sheet from standard input and prints what its lines did.
+#![tactic(auto)]
+
 use std::io::{Read, Write};
 
 fn main(rt: HostRuntime) -> anyhow::Result<()> {

@@ -1,4 +1,6 @@
 // A queue over a lent slice.
+#![tactic(auto)]
+
 mod queue;
 
 // A queue of the elements of a lent slice, at most `size` of them. The oldest lies at `first`, and the queue goes

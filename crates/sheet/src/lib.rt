@@ -1,4 +1,6 @@
 // A sheet's bytes to its print.
+#![tactic(auto)]
+
 mod asking;
 mod coding;
 mod desk;

@@ -1,4 +1,6 @@
 // The text of a sheet: its lines, their words, the numbers and bytes that words write, and bytes as text.
+#![tactic(auto)]
+
 mod hexadecimal;
 mod line_words;
 mod numbers;

@@ -1,4 +1,6 @@
 // What carries frames between two ends, and may lose or damage them.
+#![tactic(auto)]
+
 mod any;
 mod arrival;
 mod emptying;
