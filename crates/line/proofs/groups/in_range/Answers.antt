@@ -8,7 +8,7 @@ use Rattle.line.proofs.groups.in_range.Goals.{then-count-ltminus5-via-then-count
 
 pub returns-then-count-ltminus5 : goal.returns-then-count-ltminus5
 returns-then-count-ltminus5 c =
-    let z = get_or c.args.counts.now c.loop-count.count_index (pos 0) in
+    let z = get_or c.args.counts.now c.loop-count.count-index (pos 0) in
     let f : SFits w8 z = search rules in
     let off : in_range z ≡ false =
     elim c.then-count-ltminus5.branch [
@@ -17,16 +17,16 @@ returns-then-count-ltminus5 c =
       | then-count-ltminus5-via-else-count-ltminus5+then-count-gt4 w ↦
           let a = simp to_z-of_z at w.if-count-gt4.true in grind (arith, ints)
     ] in
-    all_fails in_range c.args.counts.now c.loop-count.count_index (pos 0) (omega arith) c.loop-count.invariant off
+    all_fails in_range c.args.counts.now c.loop-count.count-index (pos 0) (omega arith) c.loop-count.invariant off
 
 pub loop-count-preserved : goal.loop-count-preserved
 loop-count-preserved c =
-    let z = get_or c.args.counts.now c.loop-count.count_index (pos 0) in
+    let z = get_or c.args.counts.now c.loop-count.count-index (pos 0) in
     let f : SFits w8 z = search rules in
     let a = simp to_z-of_z at c.if-count-ltminus5.false in
     let b = simp to_z-of_z at c.if-count-gt4.false in
     let on : in_range z ≡ true = grind (arith, ints) in
-    all_more in_range c.args.counts.now c.loop-count.count_index (pos 0) (omega arith) c.loop-count.invariant on
+    all_more in_range c.args.counts.now c.loop-count.count-index (pos 0) (omega arith) c.loop-count.invariant on
 
 pub returns : goal.returns
-returns c = all_end in_range c.args.counts.now c.loop-count.count_index (omega arith) c.loop-count.invariant
+returns c = all_end in_range c.args.counts.now c.loop-count.count-index (omega arith) c.loop-count.invariant

@@ -18,7 +18,7 @@ loop-b-preserved c =
     let once = one_more 80 (group_at w) (groups_once w) groups 0 (nibble frame) (2 * b) r.0 (byte % 16)
     (omega arith) len c.groups_of-low.ensures.low (sym (low_nibble frame b)) c.loop-b.invariant in
     let twice = one_more 80 (group_at w) (groups_once w) (set groups r.0 (byte % 16)) 0 (nibble frame) (2 * b + 1) r.1 (byte / 16)
-    (omega arith) (length-set groups r.0 (byte % 16) ∙ len) c.groups_of-low.ensures.high (sym (high_nibble frame b (omega (arith, c.type-inv.frame b)))) once in
+    (omega arith) (length-set groups r.0 (byte % 16) ∙ len) c.groups_of-low.ensures.high (sym (high_nibble frame b (omega (arith, c.type_inv.frame b)))) once in
     λ h l. twice h (omega arith)
 
 pub returns : goal.returns

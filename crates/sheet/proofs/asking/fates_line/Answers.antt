@@ -11,11 +11,11 @@ returns-then-words-lt3 c = search (rules, length-map)
 pub returns-in-Some : goal.returns-in-Some
 unfolding fates_line
 returns-in-Some c =
-    let read : ◌≡◌ (fates_in (drop 2 (map (λ x. x.now) c.args.words.now))) _ = ap fates_in (drop-map (λ x. x.now) 2 c.args.words.now) ∙ ap (λ l. fates_in (map (λ x. x.now) l)) (sym (between_to_end c.args.words.now 2 (length c.args.words.now) (omega arith))) ∙ sym c.in-ok-read.ensures in
+    let read : ◌≡◌ (fates_in (drop 2 (map (λ x. x.now) c.args.words.now))) _ = ap fates_in (drop-map (λ x. x.now) 2 c.args.words.now) ∙ ap (λ l. fates_in (map (λ x. x.now) l)) (sym (between_to_end c.args.words.now 2 (length c.args.words.now) (omega arith))) ∙ sym c.in_ok-read.ensures in
     search (rules, length-map)
 
 pub returns-in-None : goal.returns-in-None
 unfolding fates_line
 returns-in-None c =
-    let read : ◌≡◌ (fates_in (drop 2 (map (λ x. x.now) c.args.words.now))) _ = ap fates_in (drop-map (λ x. x.now) 2 c.args.words.now) ∙ ap (λ l. fates_in (map (λ x. x.now) l)) (sym (between_to_end c.args.words.now 2 (length c.args.words.now) (omega arith))) ∙ sym c.in-ok-read.ensures in
+    let read : ◌≡◌ (fates_in (drop 2 (map (λ x. x.now) c.args.words.now))) _ = ap fates_in (drop-map (λ x. x.now) 2 c.args.words.now) ∙ ap (λ l. fates_in (map (λ x. x.now) l)) (sym (between_to_end c.args.words.now 2 (length c.args.words.now) (omega arith))) ∙ sym c.in_ok-read.ensures in
     search (rules, length-map)

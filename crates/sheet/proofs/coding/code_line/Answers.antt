@@ -11,10 +11,10 @@ pub returns-in-Some-Some : goal.returns-in-Some-Some
 unfolding code_line
 returns-in-Some-Some c = search (rules, length-map)
 
-pub returns-in-default : goal.returns-in-default
+pub returns-in_default : goal.returns-in_default
 unfolding code_line
-returns-in-default c = search (rules, length-map)
+returns-in_default c = search (rules, length-map)
 
-pub returns-in-default·2 : goal.returns-in-default·2
+pub returns-in_default-2 : goal.returns-in_default-2
 unfolding code_line
-returns-in-default·2 c = search (rules, length-map)
+returns-in_default-2 c = search (rules, length-map)

@@ -11,6 +11,6 @@ pub returns-in-Some-Some : goal.returns-in-Some-Some
 unfolding frame_line
 returns-in-Some-Some c = search (rules, length-map)
 
-pub returns-in-default : goal.returns-in-default
+pub returns-in_default : goal.returns-in_default
 unfolding frame_line
-returns-in-default c = search (rules, length-map)
+returns-in_default c = search (rules, length-map)

@@ -4,8 +4,8 @@ use Rattle.sheet.proofs.running.run_calls.Goals as goal
 
 pub loop-i-preserved : goal.loop-i-preserved
 loop-i-preserved c =
-    one_more c.args.pieces.now c.loop-i.i _ _ _ _ _ _ _ _ (omega arith) c.in-ok-asked.ensures c.carry_out-outcome.ensures.answer
-    c.carry_out-outcome.ensures.state c.in-ok-put_outcome.ensures c.loop-i.invariant
+    one_more c.args.pieces.now c.loop-i.i _ _ _ _ _ _ _ _ (omega arith) c.in_ok-asked.ensures c.carry_out-outcome.ensures.answer
+    c.carry_out-outcome.ensures.state c.in_ok-put_outcome.ensures c.loop-i.invariant
 
 pub returns : goal.returns
 returns c =

@@ -12,21 +12,21 @@ returns-in-None c =
     let i = c.loop-i.i in
     let s = setup_wire c.loop-i.setup in
     let world = declared s in
-    let ask = ask_of c.in-ok-asked.asked in
+    let ask = ask_of c.in_ok-asked.asked in
     let out = string_bytes c.loop-i.out in
     let calls = was_call (is_call ask) (outcome_in world ask) c.in-None.ensures.answer in
     let stays = c.in-None.ensures.state ∙ ap (λ (b : Bool). cond b world (after_ask world ask)) calls in
     ap (λ (w : World). out ++ prints_from (i + 1) (called w.wire) (map (λ x. x.now) (drop i items))) stays
-    ∙ ap (λ (l : List ℕ). out ++ l) (sym (from_call items i (record { ref_ptr = (0, 0); now = [] }) s (omega arith) (ap is_call (sym c.in-ok-asked.ensures) ∙ calls)))
+    ∙ ap (λ (l : List ℕ). out ++ l) (sym (from_call items i (record { ref_ptr = (0, 0); now = [] }) s (omega arith) (ap is_call (sym c.in_ok-asked.ensures) ∙ calls)))
     ∙ c.loop-i.invariant
 
 pub loop-i-preserved : goal.loop-i-preserved
 loop-i-preserved c =
     let world = declared (setup_wire c.loop-i.setup) in
-    let ask = ask_of c.in-ok-asked.asked in
+    let ask = ask_of c.in_ok-asked.asked in
     let other = was_other (is_call ask) (outcome_in world ask) c.in-Some.outcome c.in-Some.ensures.answer in
-    one_more c.args.pieces.now c.loop-i.i _ _ _ _ _ _ ask c.in-Some.outcome (omega arith) c.in-ok-asked.ensures other.1
-    (c.in-Some.ensures.state ∙ ap (λ (b : Bool). cond b world (after_ask world ask)) other.0) c.in-ok-put_outcome.ensures c.loop-i.invariant
+    one_more c.args.pieces.now c.loop-i.i _ _ _ _ _ _ ask c.in-Some.outcome (omega arith) c.in_ok-asked.ensures other.1
+    (c.in-Some.ensures.state ∙ ap (λ (b : Bool). cond b world (after_ask world ask)) other.0) c.in_ok-put_outcome.ensures c.loop-i.invariant
 
 pub returns : goal.returns
 returns c =

@@ -8,9 +8,9 @@ use Rattle.sheet.proofs.running.run_made.Goals as goal
 pub returns : goal.returns
 returns c =
     let setup = c.args.setup.now in
-    let places = ap length c.deref-mut.ensures.value ∙ c.in-ok-frames.ensures ∙ c.places.ensures in
+    let places = ap length c.deref-mut.ensures.value ∙ c.in_ok-frames.ensures ∙ c.places.ensures in
     let state =
     made_state c.new-wire.result c.make_wire.result setup.wire (vec_items setup.fates) c.new-wire.ensures.below c.make_wire.ensures.empty
     (c.make_wire.ensures.room places) (c.new-wire.ensures.fates ∙ ap (take 64) c.deref.ensures.value) in
-    c.in-ok-run_calls.ensures
+    c.in_ok-run_calls.ensures
     ∙ ap (λ (s : WireState). string_bytes c.args.out.now ++ prints_from (c.args.from + 1) (called s) (map (λ x. x.now) (drop c.args.from c.args.pieces.now))) state

@@ -8,5 +8,5 @@ returns-in-empty c = record { value = search rules; reads_back = bytes_back }
 pub returns-in-45 : goal.returns-in-45
 returns-in-45 c = record { value = search rules; reads_back = bytes_back }
 
-pub returns-in-default : goal.returns-in-default
-returns-in-default c = record { value = search rules; reads_back = bytes_back }
+pub returns-in_default : goal.returns-in_default
+returns-in_default c = record { value = search rules; reads_back = bytes_back }

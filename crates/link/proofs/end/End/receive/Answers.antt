@@ -2,8 +2,8 @@ use Rattle.std.proofs.Common.{rules}
 use Rattle.link.proofs.Laws.{discarded_logs, legal_frees, legal_by_number}
 use Rattle.link.proofs.end.End.receive.Goals as goal
 
-pub returns-in-err-received : goal.returns-in-err-received
-returns-in-err-received c =
+pub returns-in_err-received : goal.returns-in_err-received
+returns-in_err-received c =
     record {
       value = search rules;
       after = search rules;

@@ -12,11 +12,11 @@ returns-in-Some g c =
     let whole : length frame ≡ 40 = search rules in
     let wide : length c.in-Some.bytes ≡ 40 = search rules in
     let size : eqb (length frame) 40 ≡ true = eq-eqb (length frame) 40 whole in
-    let same : c.in-ok-bytes.bytes ≡ frame = search rules in
+    let same : c.in_ok-bytes.bytes ≡ frame = search rules in
     let e : Some c.in-Some.bytes ≡ struck fate frame = rw (← same) (rw (← c.spend.ensures.is) c.in-Some.ensures) in
     record {
       answer = search rules;
-      list = put_struck fate _ frame c.in-Some.bytes _ whole (λ i. omega (arith, c.type-inv.frame i)) wide e (rw c.spend.ensures.below at c.put.ensures.list);
+      list = put_struck fate _ frame c.in-Some.bytes _ whole (λ i. omega (arith, c.type_inv.frame i)) wide e (rw c.spend.ensures.below at c.put.ensures.list);
       own = record {
         fates = rw size c.spend.ensures.left;
         below = rw size (rw (← e) (rw c.spend.ensures.below at c.put.ensures.own_val));

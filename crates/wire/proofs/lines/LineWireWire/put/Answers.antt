@@ -10,7 +10,7 @@ returns-then-push_back c =
     let before : LineWire = c.args.self.now in
     let after : LineWire = record { counts = c.code-counts.result; queue = c.push_back.new.self } in
     let whole : length frame ≡ 40 = search rules in
-    let same : c.in-ok-bytes.bytes ≡ frame = search rules in
+    let same : c.in_ok-bytes.bytes ≡ frame = search rules in
     let coded = rw same at c.code-counts.ensures in
     let told = c.if-push_back.ensures in
     record {
@@ -25,7 +25,7 @@ returns-else-push_back c =
     let before : LineWire = c.args.self.now in
     let after : LineWire = record { counts = c.args.self.now.counts; queue = c.push_back.new.self } in
     let whole : length frame ≡ 40 = search rules in
-    let same : c.in-ok-bytes.bytes ≡ frame = search rules in
+    let same : c.in_ok-bytes.bytes ≡ frame = search rules in
     let coded = rw same at c.code-counts.ensures in
     let told = c.if-push_back.ensures in
     record {
