@@ -41,7 +41,7 @@ fn spelled(bytes: &[u8]) -> [u8; 2 * PIECE]
 
 // Writes a piece at a time, so that a writer is called seldom.
 fn put_pairs<W: fmt::Write>(bytes: &[u8], f: &mut fmt::Formatter<W>) -> fmt::Result
-    ensures { WritesOnOk write_str_gives f.old result (shown_pairs bytes.now) f.new }
+    ensures { WritesOnOk W.write_str_gives f.old result (shown_pairs bytes.now) f.new }
 {
     let mut rest = bytes;
     while !rest.is_empty() {

@@ -6,7 +6,7 @@ pub returns-in-None : goal.returns-in-None
 returns-in-None c = no_pair _ _ _ c.loop-rest.invariant (search rules) (sym c.in-None.ensures)
 
 pub loop-rest-preserved : goal.loop-rest-preserved
-loop-rest-preserved c = pair_more _ _ _ c.loop-rest.invariant _ _ (search rules) (sym c.in-Some.ensures) c.in_ok-push.ensures.items
+loop-rest-preserved c = pair_more _ _ _ c.loop-rest.invariant _ _ (search rules) (sym c.in-Some.ensures) c.in_ok-push-in-Some.ensures.items
 
 pub returns-then-is_empty : goal.returns-then-is_empty
 returns-then-is_empty c = all_pairs _ _ _ c.loop-rest.invariant (true-eqb _ 0 c.if-is_empty.ensures)

@@ -11,7 +11,7 @@ pub loop-rest-preserved : goal.loop-rest-preserved
 loop-rest-preserved g c =
     put_piece _ _ _ _ _ _ _ _ _ _ c.loop-rest.invariant c.split_at.ensures.front c.split_at.ensures.back
     (c.in-Ok.ensures.cases.0 ∙ ap (λ n. take n c.spelled-text.result) (sub-zero _) ∙ c.spelled-text.ensures)
-    (λ plain. c.in_ok-write_str.ensures.writes plain refl)
+    (λ plain. c.in_ok-write_str-in-Ok.ensures.writes plain refl)
 
 -- what was spelled is ASCII, and so is text
 pub unreachable-requires : goal.unreachable-requires
