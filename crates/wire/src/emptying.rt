@@ -7,7 +7,7 @@ use crate::wire_trait::Wire;
 
 // Empties a wire, whatever is on it.
 pub fn drain<W: Wire>(wire: &mut W)
-    ensures { frames wire.new ≡ [] }
+    ensures { W.frames wire.new ≡ [] }
 {
     let mut frame = [0u8; FRAME_SIZE];
     while let Ok(Arrival::Frame) = wire.next(&mut frame) {}

@@ -19,6 +19,6 @@ returns-in-Some g c =
       list = put_struck fate _ frame c.in-Some.bytes _ whole (λ i. omega (arith, c.type_inv.frame i)) wide e (rw c.spend.ensures.below at c.put.ensures.list);
       own = record {
         fates = rw size c.spend.ensures.left;
-        below = rw size (rw (← e) (rw c.spend.ensures.below at c.put.ensures.own_val));
+        below = rw size (rw (← e) (rw c.spend.ensures.below at c.put.ensures.own));
       };
     }
