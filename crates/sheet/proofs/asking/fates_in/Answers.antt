@@ -3,7 +3,7 @@ use Rattle.wire.specs.declared.fate.Fate.{Fate}
 use Rattle.sheet.specs.declared.request.FateWord.{FateWord}
 use Rattle.sheet.proofs.Fated.{behind, one_word, no_word}
 use Rattle.sheet.proofs.asking.fates_in.Goals as goal
-use Rattle.sheet.proofs.asking.fates_in.Goals.{in-Opens, in-Is+in_ok-push}
+use Rattle.sheet.proofs.asking.fates_in.Goals.{in-Opens, in-Is+in_ok-push-in-Is}
 
 pub returns-in-Unknown : goal.returns-in-Unknown
 returns-in-Unknown c =
@@ -23,11 +23,11 @@ loop-w-preserved c =
           let a = w.fates-is in
           let b = w.flip-is in
           cc
-      | in-Is+in_ok-push w ↦
+      | in-Is+in_ok-push-in-Is w ↦
           let so_far = ap (λ (x : FateWord). behind x fates rest) w.in-Is.ensures ∙ sym one ∙ c.loop-w.invariant in
           let a = w.fates-is in
           let b = w.flip-is in
-          let p = w.in_ok-push.ensures.items in
+          let p = w.in_ok-push-in-Is.ensures.items in
           cc
     ]
 

@@ -26,7 +26,7 @@ loop-i-preserved c =
     let ask = ask_of c.in_ok-asked.asked in
     let other = was_other (is_call ask) (outcome_in world ask) c.in-Some.outcome c.in-Some.ensures.answer in
     one_more c.args.pieces.now c.loop-i.i _ _ _ _ _ _ ask c.in-Some.outcome (omega arith) c.in_ok-asked.ensures other.1
-    (c.in-Some.ensures.state ∙ ap (λ (b : Bool). cond b world (after_ask world ask)) other.0) c.in_ok-put_outcome.ensures c.loop-i.invariant
+    (c.in-Some.ensures.state ∙ ap (λ (b : Bool). cond b world (after_ask world ask)) other.0) c.in_ok-put_outcome-in-Some.ensures c.loop-i.invariant
 
 pub returns : goal.returns
 returns c =

@@ -8,7 +8,7 @@ use Rattle.sheet.proofs.running.run_made.Goals as goal
 pub returns : goal.returns
 returns c =
     let setup = c.args.setup.now in
-    let places = ap length c.deref-mut.ensures.value ∙ c.in_ok-frames.ensures ∙ c.places.ensures in
+    let places = ap length c.deref_mut.ensures.value ∙ c.in_ok-frames.ensures ∙ c.places.ensures in
     let state =
     made_state c.new-wire.result c.make_wire.result setup.wire (vec_items setup.fates) c.new-wire.ensures.below c.make_wire.ensures.empty
     (c.make_wire.ensures.room places) (c.new-wire.ensures.fates ∙ ap (take 64) c.deref.ensures.value) in
