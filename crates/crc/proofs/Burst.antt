@@ -1,5 +1,5 @@
 -- Up to 16 bits in a row show, and a residue tells its check: bits are added into the register, and steps are injective.
-use Rattle.std.proofs.Common.{◌≡◌, ℕ, zero, suc, ◌+◌, ◌*◌, ◌/◌, ◌%◌, ◌^◌, ◌<◌, ◌≤◌, Bool, List, [], ◌∷◌, ◌++◌, sym, refl, ap, ◌∙◌, subst, arith}
+use Rattle.std.proofs.Common.{◌≡◌, ℕ, ◌^◌, ◌<◌, ◌≤◌, Bool, List, [], ◌∷◌, ◌++◌, sym, refl, ap, ◌∙◌, arith}
 use lib.Bits.{bit_xor, xor_assoc, xor_comm, xor_self, xor_zero_r, xor_lt}
 use Rattle.crc.specs.Serial.{step, feed, bits, byte_in, through, residue}
 use Rattle.crc.specs.Laws.{ShowsAByte, ShowsABurst, ResidueTells, KeepsItsWidth}

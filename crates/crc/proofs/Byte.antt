@@ -1,6 +1,5 @@
 -- Eight bits at once: what a byte does to the register, by what the register's lowest byte becomes.
-use Rattle.std.proofs.Common.{◌≡◌, ℕ, zero, suc, ◌+◌, ◌*◌, ◌/◌, ◌%◌, ◌^◌, ◌<◌, ◌≤◌, Bool, true, false, cond, not, eqb, List, ◌∷◌, sym, refl, ap, ◌∙◌, subst, ap₂, pow-suc, arith, pow_pos}
-use mathlib.Core.Bool.{beq}
+use Rattle.std.proofs.Common.{◌≡◌, ℕ, zero, suc, ◌+◌, ◌*◌, ◌/◌, ◌%◌, ◌^◌, ◌<◌, Bool, true, false, cond, eqb, List, ◌∷◌, sym, refl, ap, ◌∙◌, ap₂, pow-suc, arith, pow_pos}
 use lib.Bits.{bit_xor, xor_assoc, xor_comm, xor_zero_r, xor_shr, xor_mod, xor_shifted, shifted_half, shifted_even}
 use lib.Arith.{mod-mul}
 use Rattle.std.proofs.lemmas.Nat.{shr_split}

@@ -1,9 +1,9 @@
 -- A single bit turned over leaves something in the register.
-use Rattle.std.proofs.Common.{◌≡◌, ℕ, suc, ◌*◌, ◌/◌, ◌%◌, ◌^◌, ◌<◌, ◌≤◌, List, ◌∷◌, ◌++◌, length, get_or, take, drop, set, sym, refl, ap, ◌∙◌, subst, arith, pow_pos}
+use Rattle.std.proofs.Common.{◌≡◌, ℕ, suc, ◌/◌, ◌%◌, ◌^◌, ◌<◌, ◌≤◌, List, ◌∷◌, ◌++◌, length, get_or, take, drop, set, sym, refl, ap, ◌∙◌, arith, pow_pos}
 use lib.Bits.{bit_xor, xor_assoc, xor_comm, xor_self, xor_zero_r, xor_lt}
 use lib.Seq.{set_split, set-get_or}
 use Rattle.std.proofs.lemmas.Nat.{pow_below}
-use Rattle.crc.specs.Serial.{through, residue, feed, bits}
+use Rattle.crc.specs.Serial.{through, residue, bits}
 use Rattle.crc.specs.Laws.{Bytes, flipped, OneBitShows}
 use Rattle.crc.proofs.Single.{feed_inj}
 use Rattle.crc.proofs.Burst.{shows_a_byte, keeps_its_width, residue_tells}

@@ -1,9 +1,8 @@
 -- A single wrong bit is noticed: a step is injective in the register, and its bit shows in the highest place.
-use Rattle.std.proofs.Common.{◌≡◌, ℕ, zero, suc, ◌+◌, ◌*◌, ◌/◌, ◌%◌, ◌^◌, ◌<◌, ◌≤◌, Bool, true, false, cond, not, eqb, List, [], ◌∷◌, ◌++◌, sym, refl, ap, ◌∙◌, subst, arith}
-use mathlib.Core.Bool.{beq}
+use Rattle.std.proofs.Common.{◌≡◌, ℕ, ◌/◌, ◌%◌, ◌^◌, ◌<◌, ◌≤◌, Bool, true, false, cond, not, eqb, List, [], ◌∷◌, ◌++◌, sym, refl, ap, ◌∙◌, arith}
 use lib.Bits.{bit_xor, xor_assoc, xor_self, xor_zero_r, xor_lt, xor_shr}
 use Rattle.crc.specs.Serial.{odd, differs, step, feed}
-use Rattle.crc.specs.Laws.{Apart, ShowsABit}
+use Rattle.crc.specs.Laws.{ShowsABit}
 
 xor_back : (x z : ℕ) → bit_xor (bit_xor x z) z ≡ x
 xor_back x z = xor_assoc x z z ∙ ap (bit_xor x) (xor_self z) ∙ xor_zero_r x

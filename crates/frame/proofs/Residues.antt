@@ -1,13 +1,13 @@
 -- What the syndrome of the link check tells of a frame.
-use Rattle.std.proofs.Common.{◌≡◌, ℕ, zero, suc, ◌+◌, ◌*◌, ◌/◌, ◌%◌, ◌^◌, ◌<◌, ◌≤◌, Bool, true, false, cond, not, T, eqb, ◌≢◌, List, [], ◌∷◌, ◌++◌, map, length, get_or, set, sym, refl, ap, ◌∙◌, subst, ap₂, arith, lit<, lit≤, eqb→eq, length-set, get_or-set_other, get_or-set_same, eq-eqb}
+use Rattle.std.proofs.Common.{◌≡◌, ℕ, zero, suc, ◌/◌, ◌%◌, ◌^◌, ◌<◌, ◌≤◌, Bool, true, false, cond, not, T, eqb, ◌≢◌, List, [], ◌∷◌, ◌++◌, map, length, get_or, set, sym, refl, ap, ◌∙◌, subst, ap₂, arith, lit<, lit≤, eqb→eq, length-set, get_or-set_other, get_or-set_same, eq-eqb}
 use lib.Bits.{bit_xor, xor_zero_r}
 use Rattle.std.proofs.lemmas.List.{map-append}
-use Rattle.crc.specs.Laws.{Bytes, flipped}
+use Rattle.crc.specs.Laws.{Bytes}
 use Rattle.crc.specs.Serial.{byte_in, through, residue}
 use Rattle.crc.proofs.Burst.{keeps_its_width, residue_tells, shows_a_byte}
 use Rattle.crc.proofs.Byte.{two_bytes}
 use Rattle.crc.proofs.Flips.{turned, turned_lt}
-use Rattle.crc.proofs.Table.{both, both_left, both_right, at_below}
+use Rattle.crc.proofs.Table.{at_below}
 use Rattle.frame.specs.Checks.{order, covered, link_check, received, syndrome_of, sealed, GoodIsZero, StompedIs06A9, FrameBitShows, SealedIsGood}
 
 -- the generator has 16 bits and constant term 1

@@ -1,5 +1,5 @@
 -- Fields come back out of their frame, and frames out of their fields.
-use Rattle.std.proofs.Common.{◌≡◌, ℕ, ◌+◌, ◌-◌, ◌*◌, ◌/◌, ◌%◌, ◌<◌, ◌≤◌, Bool, true, false, cond, eqb, List, [], ◌∷◌, ◌++◌, length, get_or, take, drop, sym, refl, ap, ◌∙◌, ap₂, arith, eqb→eq}
+use Rattle.std.proofs.Common.{◌≡◌, ℕ, ◌+◌, ◌-◌, ◌*◌, ◌/◌, ◌%◌, ◌<◌, ◌≤◌, Bool, true, false, cond, eqb, List, [], ◌∷◌, ◌++◌, length, get_or, drop, refl, ap, ◌∙◌, ap₂, arith, eqb→eq}
 use borrow.Rule.Slice.PartMut.{put_mid}
 use Rattle.std.proofs.lemmas.List.{take-append-drop, drop_more, drop_all, take_at, drop_at, append-nil, get_or-append_right}
 use Rattle.crc.proofs.Table.{at_below}
@@ -9,7 +9,7 @@ use Rattle.frame.specs.declared.kind.Kind.{Kind}
 use Rattle.frame.specs.declared.kind.Kind.TheVariants.{Undefined0, Undefined1, Reset, ResetAck, Initialize, InitializeAck, Undefined6, Null, Data, Header, CreditOnly, Undefined11, Undefined12, Undefined13, Undefined14, Admin}
 use Rattle.frame.specs.declared.fields.Fields.{Fields}
 use Rattle.frame.specs.Naming.{type_of, kind_at, channel_number, channel_at}
-use Rattle.frame.specs.Layout.{credit_byte, control_byte, trailer, frame_of, fields_of, data_of, Fits, FieldsComeBack, FramesComeBack, ControlFigures}
+use Rattle.frame.specs.Layout.{credit_byte, control_byte, trailer, fields_of, FieldsComeBack, FramesComeBack, ControlFigures}
 
 pub type_back : (n : ℕ) → n < 16 → type_of (kind_at n) ≡ n
 type_back n h = eqb→eq (type_of (kind_at n)) n (at_below (λ n. eqb (type_of (kind_at n)) n) 16 tt n h)

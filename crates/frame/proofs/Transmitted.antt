@@ -1,5 +1,5 @@
 -- The order in which a frame's bytes are covered.
-use Rattle.std.proofs.Common.{◌≡◌, ℕ, zero, suc, ◌+◌, ◌≤◌, List, [], ◌∷◌, map, length, get_or, take, drop, sym, refl, ap, ◌∙◌, ap₂, arith, drop-cons}
+use Rattle.std.proofs.Common.{◌≡◌, ℕ, zero, suc, ◌+◌, ◌≤◌, List, [], ◌∷◌, map, length, get_or, take, drop, refl, ap, ◌∙◌, arith, drop-cons}
 use Rattle.crc.specs.Serial.{byte_in, through}
 use Rattle.frame.specs.Checks.{order, covered, link_check}
 

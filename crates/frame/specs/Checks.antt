@@ -1,10 +1,9 @@
 -- What the two checks of a frame cover, and what they find out.
-use Rattle.std.specs.Prelude.{◌≡◌, ℕ, ◌+◌, ◌*◌, ◌/◌, ◌%◌, ◌^◌, ◌<◌, cond, List, [], ◌∷◌, map, length, Some, None, Option, Result, ◌==◌, ◌≢◌, bit_xor, slice_index, slice_set}
-use Rattle.crc.specs.Laws.{Bytes, flipped, OneBitShows}
+use Rattle.std.specs.Prelude.{◌≡◌, ℕ, ◌+◌, ◌*◌, ◌/◌, ◌%◌, ◌<◌, cond, List, [], ◌∷◌, map, length, Some, None, Option, ◌==◌, ◌≢◌, bit_xor, slice_index, slice_set}
+use Rattle.crc.specs.Laws.{Bytes, flipped}
 use Rattle.crc.specs.Serial.{through, residue}
 use Rattle.frame.specs.declared.refusal.Refusal.{Refusal}
 use Rattle.frame.specs.declared.refusal.Refusal.TheVariants.{BadSize}
-use Rattle.frame.specs.Codec.{or_else, frame_refusal}
 
 -- the bytes of a frame in the order of transmission, without the link check: eight data bytes, then two bytes of
 -- control bits from c00 up, and so on

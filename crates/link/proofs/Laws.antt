@@ -1,5 +1,5 @@
 -- The laws of an end.
-use Rattle.std.proofs.Common.{◌≡◌, ℕ, ◌+◌, ◌-◌, ◌≤◌, Bool, true, false, cond, eqb, ltb, leb, List, [], ◌∷◌, ◌++◌, map, length, take, drop, Some, None, Ok, Err, Option, Result, sym, refl, ap, ◌∙◌, subst, append-nil, arith, get_or-set_other, drop-drop, eqb-true}
+use Rattle.std.proofs.Common.{◌≡◌, ℕ, ◌+◌, ◌-◌, Bool, true, false, cond, eqb, ltb, leb, List, [], ◌∷◌, ◌++◌, length, drop, Some, None, Ok, Err, Option, Result, sym, refl, ap, ◌∙◌, subst, append-nil, arith, get_or-set_other, drop-drop, eqb-true}
 use lib.Seq.{drop-length}
 use Rattle.std.specs.List.{slice_get}
 use Rattle.frame.specs.declared.channel.Channel.{Channel}
@@ -21,9 +21,9 @@ use Rattle.link.specs.declared.received.Received.{Received}
 use Rattle.link.specs.declared.sort.Sort.{Sort}
 use Rattle.link.specs.declared.sort.Sort.TheVariants.{Idle, Control, Credit, Afresh, Onward}
 use Rattle.link.specs.declared.event.Event.{Event}
-use Rattle.link.specs.declared.event.Event.TheVariants.{LcrcError, TseqError, EcrcError, RetryCount, RetryFailureError, RseqOutOfRangeError, RseqMissingError, CreditOverflow, BufferOverflow}
+use Rattle.link.specs.declared.event.Event.TheVariants.{LcrcError, TseqError, EcrcError, RetryCount, RetryFailureError, RseqOutOfRangeError, RseqMissingError}
 use Rattle.link.specs.Acknowledging.{freed_by, freed_front, acknowledged_by, acknowledged, credited, oldest_of}
-use Rattle.link.specs.Calls.{Call, opens, adds, cuts, admins, sends, receives, times_out, takes, returns, reads_event, step, refusal_in, refusal_of, Loads}
+use Rattle.link.specs.Calls.{opens, adds, cuts, admins, sends, receives, times_out, takes, returns, reads_event, refusal_in}
 use Rattle.frame.specs.Naming.{channel_number}
 use Rattle.link.specs.declared.record.Core.{Core}
 use Rattle.link.specs.Credit.{next_waiting, told_off, updated_at}

@@ -1,5 +1,5 @@
 -- Acknowledgements and credit from the peer.
-use Rattle.std.specs.Prelude.{ℕ, ◌+◌, ◌-◌, min, false, cond, List, drop, Some, None, Option, ◌==◌, nat_lt}
+use Rattle.std.specs.Prelude.{ℕ, ◌+◌, ◌-◌, min, false, cond, drop, Some, None, Option, ◌==◌, nat_lt}
 use Rattle.std.specs.List.{slice_get}
 use Rattle.frame.specs.declared.channel.Channel.{Channel}
 use Rattle.numbers.specs.Round.{freed_at_once}

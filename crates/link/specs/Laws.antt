@@ -1,5 +1,5 @@
 -- What holds of an end whatever is called.
-use Rattle.std.specs.Prelude.{◌≡◌, ℕ, ◌≤◌, Bool, true, false, List, [], ◌∷◌, ◌++◌, map, length, take, drop, Some, None, Ok, Option, ◌==◌, ◌≢◌}
+use Rattle.std.specs.Prelude.{◌≡◌, ℕ, ◌≤◌, false, List, [], ◌∷◌, ◌++◌, map, length, take, drop, Some, None, Ok, ◌==◌, ◌≢◌}
 use Rattle.frame.specs.declared.channel.Channel.{Channel}
 use Rattle.frame.specs.declared.channel.Channel.TheVariants.{Vc0, Vc2}
 use Rattle.frame.specs.declared.refusal.Refusal.{Refusal}
@@ -10,12 +10,10 @@ use Rattle.link.specs.declared.answer.Answer.TheVariants.{Discarded}
 use Rattle.link.specs.declared.answer.Cause.{Cause}
 use Rattle.link.specs.declared.event.Event.{Event}
 use Rattle.link.specs.declared.micropacket.Micropacket.{Micropacket}
-use Rattle.link.specs.declared.record.ChannelRecord.{ChannelRecord}
 use Rattle.link.specs.declared.record.Core.{Core}
 use Rattle.link.specs.Acknowledging.{freed_by, acknowledged, oldest_of}
 use Rattle.link.specs.Calls.{Call, step, refusal_of, Loads, receives}
 use Rattle.link.specs.Credit.{next_waiting, update_of, updated}
-use Rattle.link.specs.Log.{kept}
 use Rattle.link.specs.Numbering.{numbers, no_number}
 use Rattle.link.specs.Receiving.{receive_answer}
 use Rattle.link.specs.Records.{new_core, record_of}

@@ -1,6 +1,5 @@
 -- Counting and keeping events.
 use Rattle.std.specs.Prelude.{ℕ, ◌+◌, min, cond, List, [], ◌∷◌, ◌++◌, length, drop, Some, None, Ok, Err, Option, Result, nat_lt, slice_index, slice_set}
-use Rattle.std.specs.List.{slice_get}
 use Rattle.frame.specs.declared.refusal.Refusal.{Refusal}
 use Rattle.frame.specs.declared.refusal.Refusal.TheVariants.{NothingHeld}
 use Rattle.link.specs.declared.event.Event.{Event}

@@ -1,13 +1,13 @@
 -- Loading Messages and Admins: what is refused, tried from the top, and what an end is after it.
-use Rattle.std.specs.Prelude.{ℕ, ◌-◌, Bool, true, false, cond, List, length, Ok, Err, Result, ◌==◌, nat_le, nat_lt}
+use Rattle.std.specs.Prelude.{ℕ, ◌-◌, true, false, cond, List, length, Ok, Err, Result, ◌==◌, nat_le, nat_lt}
 use Rattle.frame.specs.declared.channel.Channel.{Channel}
 use Rattle.frame.specs.declared.channel.Channel.TheVariants.{Vc1, Vc2}
 use Rattle.frame.specs.declared.kind.Kind.TheVariants.{Data, Header, Admin}
 use Rattle.frame.specs.declared.refusal.Refusal.{Refusal}
-use Rattle.frame.specs.declared.refusal.Refusal.TheVariants.{BadChannel, MessageOpen, NoMessage, TooLong, BadSize, WindowFull, NoCredit}
+use Rattle.frame.specs.declared.refusal.Refusal.TheVariants.{BadChannel, MessageOpen, NoMessage, TooLong, WindowFull, NoCredit}
 use Rattle.frame.specs.Checks.{data_refusal}
 use Rattle.frame.specs.Codec.{or_else}
-use Rattle.frame.specs.Naming.{channel_at, channel_or}
+use Rattle.frame.specs.Naming.{channel_or}
 use Rattle.message.specs.Making.{longest_payload, header_refusal, header_bytes, piece_refusal, piece_bytes}
 use Rattle.link.specs.Checking.{zeros}
 use Rattle.link.specs.Loading.{has_room, body_of, put}

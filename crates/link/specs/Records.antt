@@ -1,10 +1,9 @@
 -- The numbers of an end, and what is done to them.
-use Rattle.std.specs.Prelude.{ℕ, ◌+◌, ◌-◌, min, max, Bool, true, false, cond, List, [], ◌∷◌, replicate, Some, None, Option, ◌==◌, nat_lt, slice_index, slice_index_or, slice_set}
+use Rattle.std.specs.Prelude.{ℕ, ◌+◌, ◌-◌, min, false, cond, List, [], ◌∷◌, replicate, None, ◌==◌, nat_lt, slice_index, slice_index_or, slice_set}
 use Rattle.frame.specs.declared.channel.Channel.{Channel}
 use Rattle.frame.specs.declared.channel.Channel.TheVariants.{Vc3}
 use Rattle.frame.specs.Naming.{channel_number}
-use Rattle.link.specs.declared.phase.Phase.{Phase}
-use Rattle.link.specs.declared.phase.Phase.TheVariants.{Normal, Shutdown}
+use Rattle.link.specs.declared.phase.Phase.TheVariants.{Normal}
 use Rattle.link.specs.declared.record.ChannelRecord.{ChannelRecord}
 use Rattle.link.specs.declared.record.Core.{Core}
 

@@ -1,11 +1,11 @@
 -- Repeats, and giving up.
-use Rattle.std.specs.Prelude.{ℕ, ◌+◌, min, cond, List, [], ◌∷◌, Ok, Err, Result, ◌==◌, nat_lt}
+use Rattle.std.specs.Prelude.{◌+◌, min, cond, [], ◌∷◌, Ok, Err, Result, ◌==◌, nat_lt}
 use Rattle.frame.specs.declared.channel.Channel.TheVariants.{Vc0, Vc1, Vc2, Vc3}
 use Rattle.frame.specs.declared.refusal.Refusal.{Refusal}
 use Rattle.frame.specs.declared.refusal.Refusal.TheVariants.{NothingSent}
 use Rattle.link.specs.declared.event.Event.TheVariants.{RseqMissingError, RetryCount, RetryFailureError}
 use Rattle.link.specs.declared.phase.Phase.{Phase}
-use Rattle.link.specs.declared.phase.Phase.TheVariants.{Normal, Shutdown}
+use Rattle.link.specs.declared.phase.Phase.TheVariants.{Shutdown}
 use Rattle.link.specs.declared.record.ChannelRecord.{ChannelRecord}
 use Rattle.link.specs.declared.record.Core.{Core}
 use Rattle.link.specs.Log.{logged}

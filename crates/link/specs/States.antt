@@ -1,5 +1,5 @@
 -- An end as a plain record: its numbers, what its queues hold, oldest first, and how much they can hold.
-use Rattle.std.specs.Prelude.{ℕ, min, Bool, cond, List, [], ◌∷◌, ◌++◌, length, slice_index, slice_index_or}
+use Rattle.std.specs.Prelude.{ℕ, List, [], ◌∷◌, slice_index, slice_index_or}
 use Rattle.frame.specs.declared.channel.Channel.{Channel}
 use Rattle.frame.specs.Naming.{channel_number}
 use Rattle.link.specs.declared.buffers.Buffers.{Buffers}

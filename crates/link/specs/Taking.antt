@@ -1,13 +1,11 @@
 -- Taking what was received, and giving the places back.
-use Rattle.std.specs.Prelude.{ℕ, Bool, cond, List, [], drop, Some, None, Ok, Err, Option, Result, ◌==◌, nat_lt, slice_set}
+use Rattle.std.specs.Prelude.{ℕ, cond, List, drop, Some, None, Ok, Err, Option, Result, ◌==◌, nat_lt, slice_set}
 use Rattle.std.specs.List.{slice_get}
 use Rattle.frame.specs.declared.channel.Channel.{Channel}
 use Rattle.frame.specs.declared.refusal.Refusal.{Refusal}
-use Rattle.frame.specs.declared.refusal.Refusal.TheVariants.{BadChannel, NotNormal, BadSize, NothingHeld, NoSlip}
+use Rattle.frame.specs.declared.refusal.Refusal.TheVariants.{BadChannel, BadSize, NoSlip}
 use Rattle.frame.specs.Naming.{channel_number, channel_at}
 use Rattle.link.specs.declared.micropacket.Held.{Held}
-use Rattle.link.specs.declared.phase.Phase.{Phase}
-use Rattle.link.specs.declared.phase.Phase.TheVariants.{Normal, Shutdown}
 use Rattle.link.specs.declared.slip.Slip.{Slip}
 use Rattle.link.specs.declared.slip.Taken.{Taken}
 use Rattle.link.specs.Log.{or_nothing}

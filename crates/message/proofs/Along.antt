@@ -1,5 +1,5 @@
 -- The micropackets of a Message, read in order.
-use Rattle.std.proofs.Common.{◌≡◌, ℕ, zero, suc, ◌+◌, ◌-◌, ◌/◌, ◌^◌, ◌<◌, ◌≤◌, min, Bool, true, false, cond, eqb, ltb, leb, ◌⊎◌, List, [], ◌∷◌, ◌++◌, length, take, drop, Some, None, Ok, Err, Option, Result, sym, refl, ap, ◌∙◌, subst, ap₂, inl, inr, arith, length-append, length-drop, length-take, eq-eqb}
+use Rattle.std.proofs.Common.{◌≡◌, ℕ, zero, suc, ◌+◌, ◌-◌, ◌/◌, ◌<◌, ◌≤◌, min, Bool, true, false, cond, eqb, ltb, leb, ◌⊎◌, List, [], ◌∷◌, ◌++◌, length, take, drop, Some, None, Ok, Err, Option, Result, sym, refl, ap, ◌∙◌, subst, ap₂, inl, inr, arith, length-append, length-drop, length-take, eq-eqb}
 use native.Mathlib.Nat.{min-eq_left}
 use Rattle.std.specs.Str.{bytes_eq}
 use Rattle.std.proofs.lemmas.List.{drop-drop, drop_at, take_all, length-take-le}
@@ -16,9 +16,9 @@ use Rattle.message.specs.declared.reader.Underway.{Underway}
 use Rattle.message.specs.declared.reader.Read.{Read}
 use Rattle.message.specs.declared.reader.Read.TheVariants.{Begins, Piece, Complete}
 use Rattle.message.specs.Making.{Message, Micropacket, Loadable, longest_payload, snap, m_len, padded, header_of, data_of, datas_of, data_count, micropackets_of, cut_off}
-use Rattle.message.specs.Reading.{part_of, agree, fresh, with_message, unless, tail_refusal, four_at, heading_in, begin_refusal, begun_buffer, first_of, after, due_answer, due_message, due_buffer, shape_refusal, step_refusal, next_refusal, read_refusal, read_answer, reader_after, buffer_after}
+use Rattle.message.specs.Reading.{part_of, fresh, with_message, unless, tail_refusal, four_at, heading_in, begin_refusal, first_of, after, due_answer, due_message, due_buffer, shape_refusal, step_refusal, next_refusal, read_refusal, read_answer, reader_after, buffer_after}
 use Rattle.message.specs.Copying.{written}
-use Rattle.message.specs.Whole.{answer, next_reader, next_bytes, answers, last_reader, last_bytes, More, EndsIn, heading_of, ComesWhole, MessagesComeWhole, CutShort, CutsAreMarked, begun_and_cut}
+use Rattle.message.specs.Whole.{answer, next_reader, next_bytes, answers, last_reader, last_bytes, More, EndsIn, heading_of, MessagesComeWhole, CutsAreMarked, begun_and_cut}
 use Rattle.message.proofs.Figures.{longest_fits, length_datas}
 use Rattle.message.proofs.Pieces.{piece_back, length_piece, piece_placed}
 use Rattle.message.proofs.Headers.{m_len_back, snap_stands, first_stands, length_header, heading_back}

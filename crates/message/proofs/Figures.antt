@@ -1,11 +1,11 @@
 -- What is made of a Message: M_len and the number of Data at two lengths, and that all of it can be made.
-use Rattle.std.proofs.Common.{◌≡◌, ℕ, zero, suc, ◌+◌, ◌≤◌, min, Bool, true, false, cond, eqb, ltb, List, [], ◌∷◌, length, take, drop, Some, None, refl, ap, ◌∙◌, arith, length-take, eq-eqb}
+use Rattle.std.proofs.Common.{◌≡◌, ℕ, zero, suc, ◌≤◌, min, Bool, true, false, cond, eqb, ltb, List, length, take, drop, Some, None, refl, ap, ◌∙◌, arith, length-take, eq-eqb}
 use native.Mathlib.Nat.{min_comm}
 use Rattle.std.proofs.lemmas.Bool.{le-ltb}
 use Rattle.frame.specs.declared.channel.Channel.{Channel}
 use Rattle.frame.specs.declared.channel.Channel.TheVariants.{Vc0, Vc1, Vc2, Vc3}
 use Rattle.frame.specs.declared.refusal.Refusal.TheVariants.{BadSize}
-use Rattle.message.specs.Making.{Message, four_bytes, m_len, datas_of, data_count, longest_payload, LoadableIsMade, Figures, LengthFigures}
+use Rattle.message.specs.Making.{four_bytes, m_len, datas_of, data_count, longest_payload, LoadableIsMade, Figures, LengthFigures}
 use Rattle.message.proofs.Headers.{m_len_stands}
 
 -- every payload that a channel takes can be counted

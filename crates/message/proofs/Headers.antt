@@ -1,11 +1,11 @@
 -- What stands in a Header's bytes.
-use Rattle.std.proofs.Common.{◌≡◌, ℕ, ◌+◌, ◌-◌, ◌*◌, ◌/◌, ◌%◌, ◌^◌, ◌<◌, ◌≤◌, min, true, List, [], ◌∷◌, ◌++◌, length, get_or, take, drop, sym, refl, ap, ◌∙◌, ap₂, arith, length-append}
+use Rattle.std.proofs.Common.{◌≡◌, ℕ, ◌+◌, ◌-◌, ◌*◌, ◌/◌, ◌%◌, ◌^◌, ◌<◌, ◌≤◌, true, List, ◌++◌, length, get_or, take, drop, sym, ap, ◌∙◌, ap₂, arith, length-append}
 use Rattle.std.specs.Str.{bytes_eq}
 use Rattle.std.proofs.lemmas.List.{append_assoc, drop-drop, take_at, drop_at, get_or-drop}
 use Rattle.message.specs.Making.{Message, snap, two_bytes, four_bytes, padded, m_len, header_bytes, header_of}
 use Rattle.message.specs.Reading.{two_at, four_at, heading_in}
 use Rattle.message.specs.Whole.{heading_of}
-use Rattle.message.proofs.Pieces.{length_padded, length_piece}
+use Rattle.message.proofs.Pieces.{length_padded}
 
 -- what stands behind the two addresses
 abbrev behind : ℕ → ℕ → List ℕ → List ℕ

@@ -1,7 +1,7 @@
 -- What an answer says of the buffer lies within it.
-use Rattle.std.proofs.Common.{◌≡◌, ℕ, ◌+◌, ◌-◌, ◌≤◌, min, Bool, true, false, cond, eqb, ltb, leb, List, length, take, drop, Some, None, Option, Result, sym, refl, subst, arith}
+use Rattle.std.proofs.Common.{◌≡◌, ℕ, Bool, true, false, cond, eqb, ltb, leb, List, length, take, drop, Some, None, Option, Result, sym, refl, subst, arith}
 use Rattle.std.specs.Str.{bytes_eq}
-use Rattle.std.proofs.lemmas.Bool.{cond_both, ltb-false, leb-true, leb-false}
+use Rattle.std.proofs.lemmas.Bool.{cond_both, ltb-false, leb-false}
 use Rattle.frame.specs.declared.channel.Channel.{Channel}
 use Rattle.frame.specs.declared.refusal.Refusal.{Refusal}
 use Rattle.frame.specs.declared.refusal.Refusal.TheVariants.{Marked, OutOfStep, BadHeader, NoSpace}
@@ -13,7 +13,7 @@ use Rattle.message.specs.declared.reader.Read.{Read}
 use Rattle.message.specs.declared.reader.Part.{Part}
 use Rattle.message.specs.declared.reader.Part.TheVariants.{First, Next, Alone, Foreign}
 use Rattle.message.specs.Making.{snap, longest_payload, m_len}
-use Rattle.message.specs.Reading.{part_of, four_at, heading_in, tail_refusal, begin_refusal, begin_answer, next_refusal, next_answer, place_of, left_of, first_of, due_refusal, due_answer, shape_refusal, step_refusal, read_refusal, read_answer, LiesWithin, Within}
+use Rattle.message.specs.Reading.{part_of, four_at, heading_in, begin_refusal, begin_answer, next_refusal, next_answer, left_of, first_of, due_refusal, due_answer, shape_refusal, step_refusal, read_refusal, read_answer, LiesWithin, Within}
 
 -- one test of a chain that refused nothing
 none_else : (b : Bool) (e : Refusal) (o : Option Refusal) → cond b (Some e) o ≡ None → (b ≡ false) × (o ≡ None)

@@ -1,5 +1,5 @@
 -- What a reader makes of a micropacket.
-use Rattle.std.specs.Prelude.{◌≡◌, ℕ, ◌+◌, ◌-◌, ◌*◌, ◌≤◌, min, Bool, true, false, cond, not, List, length, take, drop, Some, None, Ok, Err, Option, Result, ◌==◌, nat_le, nat_lt, slice_index}
+use Rattle.std.specs.Prelude.{ℕ, ◌+◌, ◌-◌, ◌*◌, ◌≤◌, min, Bool, true, false, cond, not, List, length, take, drop, Some, None, Ok, Err, Option, Result, ◌==◌, nat_le, nat_lt, slice_index}
 use Rattle.std.specs.Str.{bytes_eq}
 use Rattle.frame.specs.declared.channel.Channel.{Channel}
 use Rattle.frame.specs.declared.kind.Kind.{Kind}
@@ -7,7 +7,6 @@ use Rattle.frame.specs.declared.kind.Kind.TheVariants.{Undefined0, Undefined1, R
 use Rattle.frame.specs.declared.refusal.Refusal.{Refusal}
 use Rattle.frame.specs.declared.refusal.Refusal.TheVariants.{BadChannel, BadSize, Marked, OutOfStep, BadHeader, NoSpace}
 use Rattle.frame.specs.Naming.{channel_at, channel_number, kind_at}
-use Rattle.frame.specs.Refusals.{number_of}
 use Rattle.message.specs.declared.heading.Heading.{Heading}
 use Rattle.message.specs.declared.reader.Reader.{Reader}
 use Rattle.message.specs.declared.reader.Underway.{Underway}

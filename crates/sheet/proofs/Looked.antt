@@ -1,5 +1,5 @@
 -- What the lines that look something up come to.
-use Rattle.std.proofs.Common.{◌≡◌, ℕ, Bool, true, false, cond, List, length, take, Some, None, Ok, Err, Option, sym, refl, ap, ◌∙◌, ap₂, arith}
+use Rattle.std.proofs.Common.{◌≡◌, ℕ, Bool, true, false, cond, List, length, Some, None, Ok, Err, Option, sym, refl, ap, ◌∙◌, ap₂, arith}
 use Rattle.frame.specs.declared.fields.Fields.{Fields}
 use Rattle.frame.specs.declared.fields.Numbers.{Numbers}
 use Rattle.frame.specs.declared.refusal.Refusal.{Refusal}

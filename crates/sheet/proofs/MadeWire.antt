@@ -6,7 +6,7 @@ use Rattle.wire.specs.declared.fault.Fault.{Fault}
 use Rattle.wire.specs.Anys.{any_frames}
 use Rattle.wire.specs.Fates.{fates_left}
 use Rattle.sheet.specs.declared.request.WireKind.{WireKind}
-use Rattle.sheet.specs.Desk.{WireState, any_room, room_of, wire_state, declared_wire}
+use Rattle.sheet.specs.Desk.{any_room, room_of, wire_state, declared_wire}
 
 pub made_state :
     (f : Fault AnyWire) (below : AnyWire) (kind : WireKind) (fates : List Fate) → f.below ≡ below → any_frames below ≡ []

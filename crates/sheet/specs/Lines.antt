@@ -1,7 +1,6 @@
 -- What each line of a sheet does.
-use Rattle.std.specs.Prelude.{ℕ, ◌-◌, ◌^◌, Bool, true, false, cond, ◌||◌, List, [], ◌∷◌, length, take, ℤ, Some, None, Ok, Err, codes, Option, Result, ◌==◌, slice_index, slice_index_or}
+use Rattle.std.specs.Prelude.{ℕ, ◌-◌, ◌^◌, Bool, cond, ◌||◌, List, [], length, take, ℤ, Some, None, Ok, Err, codes, Option, Result, ◌==◌, slice_index, slice_index_or}
 use Rattle.std.specs.Str.{bytes_eq}
-use Rattle.frame.specs.declared.fields.Fields.{Fields}
 use Rattle.frame.specs.declared.fields.Numbers.{Numbers}
 use Rattle.frame.specs.declared.refusal.Refusal.{Refusal}
 use Rattle.frame.specs.Checks.{syndrome_of}
@@ -17,7 +16,7 @@ use Rattle.line.specs.Tables.{standard_rows}
 use Rattle.text.specs.Hex.{bytes_of, hex4_of}
 use Rattle.text.specs.Numbers.{number_of, signed_of, bit_of}
 use Rattle.sheet.specs.declared.outcome.Outcome.{Outcome}
-use Rattle.sheet.specs.declared.outcome.Outcome.TheVariants.{Silent, NotUnderstood, Refused, Frame, Parts, Word, Code, Groups}
+use Rattle.sheet.specs.declared.outcome.Outcome.TheVariants.{NotUnderstood, Refused, Frame, Parts, Word, Code, Groups}
 use Rattle.sheet.specs.declared.outcome.FrameParts.{FrameParts}
 use Rattle.sheet.specs.declared.verb.Verb.{Verb}
 use Rattle.sheet.specs.declared.verb.Verb.TheVariants as verbs

@@ -1,12 +1,12 @@
 -- Pairs of digits as they are written. Assumes nothing.
-use Rattle.std.proofs.Common.{◌≡◌, ℕ, zero, suc, ◌+◌, ◌*◌, ◌/◌, ◌%◌, ◌<◌, ◌≤◌, Bool, true, false, cond, ◌&&◌, eqb, List, [], ◌∷◌, ◌++◌, length, get_or, take, set, Some, None, codes, IsUtf8, Decides, Option, sym, refl, ap, ◌∙◌, ⊎_elim, append_assoc, arith}
+use Rattle.std.proofs.Common.{◌≡◌, ℕ, zero, suc, ◌+◌, ◌*◌, ◌/◌, ◌%◌, ◌<◌, ◌≤◌, Bool, true, false, ◌&&◌, eqb, List, [], ◌∷◌, ◌++◌, length, get_or, take, set, Some, None, codes, IsUtf8, Decides, Option, sym, refl, ap, ◌∙◌, ⊎_elim, append_assoc, arith}
 use Rattle.std.proofs.ByRecursion.{IsAscii-from_all, All-get_or}
 use Rattle.std.proofs.lemmas.Str.{IsUtf8-from_ascii}
 use Rattle.std.proofs.lemmas.List.{take_more, take_more_set, take_all, length-set, get_or_past}
 use Rattle.std.specs.List.{AllByRecursion as All}
 use Rattle.std.proofs.lemmas.Bool.{eqb-true, eq-eqb, ne_eqb, and_left, cond-false, cases_lt}
 use Rattle.std.proofs.lemmas.Bool.Decides.{Decides-below_and}
-use Rattle.text.specs.Hex.{nibble_of, both, byte_of, in_front, pairs_of, lower, upper, shown_pairs, hex_of, shown_hex4, is_dash, bytes_of, hex4_of, BytesComeBack, Hex4ComesBack}
+use Rattle.text.specs.Hex.{nibble_of, both, byte_of, in_front, pairs_of, lower, upper, shown_pairs, hex_of, shown_hex4, is_dash, bytes_of, BytesComeBack, Hex4ComesBack}
 
 pub shown_append : (xs ys : List ℕ) → shown_pairs (xs ++ ys) ≡ shown_pairs xs ++ shown_pairs ys
 shown_append [] ys = refl

@@ -1,5 +1,5 @@
 -- A frame goes out as groups, and the groups carry it.
-use Rattle.std.proofs.Common.{◌≡◌, ℕ, Bool, true, false, cond, eqb, List, length, replicate, ℤ, Ok, Err, Result, sym, refl, ap, ◌∙◌, inl, inr, arith}
+use Rattle.std.proofs.Common.{◌≡◌, ℕ, true, false, eqb, List, length, replicate, ℤ, Ok, Err, sym, refl, ap, ◌∙◌, inl, inr, arith}
 use Rattle.std.proofs.lemmas.Bool.{cases_Bool, eq-eqb}
 use Rattle.frame.specs.declared.refusal.Refusal.{Refusal}
 use Rattle.line.specs.declared.counts.Counts.{Counts}

@@ -1,5 +1,5 @@
 -- What a queue keeps is what a wire may keep, and so is what its elements carry.
-use Rattle.std.proofs.Common.{◌≡◌, ℕ, Bool, true, false, cond, eqb, ltb, List, [], ◌∷◌, ◌++◌, map, length, refl, ap, ◌∙◌}
+use Rattle.std.proofs.Common.{◌≡◌, ℕ, Bool, true, false, cond, ltb, List, [], ◌∷◌, map, length, refl, ap, ◌∙◌}
 use Rattle.std.proofs.lemmas.List.{length-map, map-append}
 use Rattle.std.proofs.lemmas.Bool.{eq-eqb}
 use Rattle.line.specs.declared.counts.Counts.{Counts}
@@ -7,7 +7,7 @@ use Rattle.line.specs.Groups.{width_of}
 use Rattle.wire.specs.declared.lines.LineWire.{LineWire}
 use Rattle.wire.specs.Wires.{Whole, Put, stays, gains}
 use Rattle.wire.specs.Kept.{gained}
-use Rattle.wire.specs.Lines.{carried, Coded, counts_out, line_frames, line_groups, line_room, line_width, line_keeps, LinePuts}
+use Rattle.wire.specs.Lines.{carried, Coded, line_frames, line_groups, line_room, line_width, line_keeps, LinePuts}
 
 put_gained : (kept : Bool) (before : List (List ℕ)) (frame : List ℕ) (after : List (List ℕ)) → Whole frame → after ≡ gained kept before frame → Put before frame after
 put_gained true before frame after whole e = gains whole e

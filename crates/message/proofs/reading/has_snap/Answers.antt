@@ -1,4 +1,4 @@
-use Rattle.std.proofs.Common.{take, drop, rules}
+use Rattle.std.proofs.Common.{take, drop}
 use Rattle.std.proofs.lemmas.Slice.Eq.{slice_eq-Decides, bytes_eq-Decides}
 use Rattle.std.proofs.lemmas.Bool.Decides.{same_from_decides, Decides-eqb}
 use Rattle.message.specs.Making.{snap}

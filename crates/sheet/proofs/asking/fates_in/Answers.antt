@@ -1,5 +1,4 @@
-use Rattle.std.proofs.Common.{◌≡◌, ◌+◌, Bool, cond, List, [], map, drop, Some, None, vec_items, sym, ap, ◌∙◌, arith}
-use Rattle.wire.specs.declared.fate.Fate.{Fate}
+use Rattle.std.proofs.Common.{◌+◌, Bool, cond, [], map, drop, Some, None, vec_items, sym, ap, ◌∙◌, arith}
 use Rattle.sheet.specs.declared.request.FateWord.{FateWord}
 use Rattle.sheet.proofs.Fated.{behind, one_word, no_word}
 use Rattle.sheet.proofs.asking.fates_in.Goals as goal

@@ -1,4 +1,4 @@
-use Rattle.std.proofs.Common.{◌≡◌, ℕ, List, ◌++◌, string_bytes, sym, refl, ap, ◌∙◌, append-nil, arith}
+use Rattle.std.proofs.Common.{ℕ, List, ◌++◌, string_bytes, sym, ap, ◌∙◌, append-nil, arith}
 use Rattle.sheet.proofs.Printed.{one_more, none_left}
 use Rattle.sheet.proofs.running.run_calls.Goals as goal
 

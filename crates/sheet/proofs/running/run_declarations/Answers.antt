@@ -1,7 +1,6 @@
-use Rattle.std.proofs.Common.{◌≡◌, ℕ, ◌+◌, Bool, true, cond, List, [], ◌++◌, map, length, drop, string_bytes, sym, refl, ap, ◌∙◌, arith}
-use Rattle.text.specs.Pieces.{words_of}
-use Rattle.sheet.specs.Asks.{Ask, ask_of, asked}
-use Rattle.sheet.specs.Desk.{World, WireState, declared, called, setup_wire, after_ask, outcome_in, is_call}
+use Rattle.std.proofs.Common.{ℕ, ◌+◌, Bool, cond, List, [], ◌++◌, map, length, drop, string_bytes, sym, ap, ◌∙◌, arith}
+use Rattle.sheet.specs.Asks.{ask_of}
+use Rattle.sheet.specs.Desk.{World, declared, called, setup_wire, after_ask, outcome_in, is_call}
 use Rattle.sheet.specs.Print.{prints_from}
 use Rattle.sheet.proofs.Printed.{one_more, none_left, from_call, was_call, was_other}
 use Rattle.sheet.proofs.running.run_declarations.Goals as goal

@@ -1,5 +1,4 @@
-use Rattle.std.proofs.Common.{◌≡◌, ℕ, ◌+◌, List, ◌++◌, map, length, take, drop, vec_items, string_bytes, ap, ◌∙◌}
-use Rattle.wire.specs.declared.fate.Fate.{Fate}
+use Rattle.std.proofs.Common.{◌+◌, ◌++◌, map, length, take, drop, vec_items, string_bytes, ap, ◌∙◌}
 use Rattle.sheet.specs.Desk.{WireState, called}
 use Rattle.sheet.specs.Print.{prints_from}
 use Rattle.sheet.proofs.MadeWire.{made_state}

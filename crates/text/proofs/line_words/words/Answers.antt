@@ -1,4 +1,4 @@
-use Rattle.std.proofs.Common.{List, ◌++◌, map, sym, refl, ap, ◌∙◌, arith}
+use Rattle.std.proofs.Common.{map, sym, refl, ap, ◌∙◌, arith}
 use Rattle.std.proofs.lemmas.List.{map_push}
 use Rattle.text.specs.Pieces.{words_of}
 use Rattle.text.proofs.Cuts.{word_here, no_word_here, in_word, last_word, no_last_word, are_words}

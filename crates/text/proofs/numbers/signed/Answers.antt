@@ -1,4 +1,4 @@
-use Rattle.std.proofs.Common.{◌≡◌, ℤ, pos, neg_ℤ, Some, ap, ◌∙◌, arith}
+use Rattle.std.proofs.Common.{ℤ, Some, ap, ◌∙◌, arith}
 use Rattle.std.proofs.lemmas.Int.{ints}
 use Rattle.text.proofs.Decimal.{with_minus}
 use Rattle.text.proofs.numbers.signed.Goals as goal

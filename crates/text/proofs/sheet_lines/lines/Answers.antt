@@ -1,7 +1,7 @@
 use Rattle.std.proofs.Common.{ℕ, List, ◌++◌, map, vec_items, sym, refl, ap, ◌∙◌, arith, eq-eqb, ne_eqb}
 use Rattle.std.proofs.lemmas.List.{map_push}
 use Rattle.text.specs.Pieces.{lines_of, ends_line}
-use Rattle.text.proofs.Cuts.{rest_of, cut_here, inside, at_last, are_lines}
+use Rattle.text.proofs.Cuts.{cut_here, inside, at_last, are_lines}
 use Rattle.text.proofs.sheet_lines.lines.Goals as goal
 use Rattle.text.proofs.sheet_lines.lines.Goals.{then-b-eq10+in_ok-push, else-b-eq10}
 

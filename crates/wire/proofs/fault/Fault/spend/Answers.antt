@@ -1,6 +1,6 @@
 -- the fate at the turn is the first that is left
-use Rattle.std.proofs.Common.{◌≡◌, [], drop, sym, refl, ap, ◌∙◌, arith, rules}
-use Rattle.wire.specs.Fates.{next_fate, unspent}
+use Rattle.std.proofs.Common.{drop, sym, ap, ◌∙◌, arith, rules}
+use Rattle.wire.specs.Fates.{next_fate}
 use Rattle.wire.proofs.Fated.{one_spent, none_left}
 use Rattle.wire.proofs.fault.Fault.spend.Goals as goal
 
