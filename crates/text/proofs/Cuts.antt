@@ -1,6 +1,6 @@
 -- One step of a cut into pieces, and what the pieces are. Assumes nothing.
 use Rattle.std.proofs.Common.{◌≡◌, ℕ, ◌+◌, ◌<◌, ◌≤◌, Bool, true, false, not, List, [], ◌∷◌, ◌++◌, length, get_or, drop, filter, sym, refl, ap, ◌∙◌, subst, append_assoc, append-nil, le_refl, arith}
-use Rattle.std.specs.List.{between, join_with_byte, flat_map, AllByRecursion as All}
+use Rattle.std.specs.List.{between, join_with_byte, flat_map, AllByRecursion}
 use Rattle.std.proofs.lemmas.List.{drop_more, drop_all}
 use Rattle.std.proofs.lemmas.List.Edits.{between_more, between_none, length-between}
 use Rattle.std.proofs.ByRecursion.{All-push, all_kept_by, kept_by_passes}
@@ -29,10 +29,10 @@ pub cut_here : (test : ℕ → Bool) (s : List ℕ) (start i : ℕ) (done more a
 cut_here test s start i done more all h t e r =
     ap (λ (l : List (List ℕ)). l ++ rest_of test s (i + 1) (i + 1)) e ∙ append_assoc done (between start i s ∷ []) (rest_of test s (i + 1) (i + 1)) ∙ ap (λ (l : List (List ℕ)). done ++ l) (sym (at_end test s start i h t)) ∙ r
 
-pub all_free : (test : ℕ → Bool) (piece bs : List ℕ) → FreeOf test piece → All (FreeOf test) (pieces_after test piece bs)
+pub all_free : (test : ℕ → Bool) (piece bs : List ℕ) → FreeOf test piece → AllByRecursion (FreeOf test) (pieces_after test piece bs)
 all_free test piece [] h = (h, tt)
 all_free test piece (b ∷ bs) h =
-    cond_both (test b) _ _ (All (FreeOf test)) (λ e. (h, all_free test [] bs tt)) (λ e. all_free test (piece ++ b ∷ []) bs (All-push (λ c. test c ≡ false) piece b h e))
+    cond_both (test b) _ _ (AllByRecursion (FreeOf test)) (λ e. (h, all_free test [] bs tt)) (λ e. all_free test (piece ++ b ∷ []) bs (All-push (λ c. test c ≡ false) piece b h e))
 
 -- a cut gives at least one piece
 rejoined_cons : (test : ℕ → Bool) (x piece bs : List ℕ) → join_with_byte 10 (x ∷ pieces_after test piece bs) ≡ x ++ 10 ∷ join_with_byte 10 (pieces_after test piece bs)
@@ -52,7 +52,7 @@ unfolding lines_of
 are_lines sheet ls e = record {
   are = e;
   whole = ap (join_with_byte 10) e ∙ rejoined_pieces [] sheet;
-  each = subst (All (FreeOf ends_line)) (sym e) (all_free ends_line [] sheet tt);
+  each = subst (AllByRecursion (FreeOf ends_line)) (sym e) (all_free ends_line [] sheet tt);
 }
 
 -- a word that is kept, and an empty piece that is not
@@ -110,7 +110,7 @@ pub are_words : (line : List ℕ) (ws : List (List ℕ)) → ws ≡ words_of lin
 unfolding words_of
 are_words line ws e = record {
   are = e;
-  none_empty = subst (All (λ w. some w ≡ true)) (sym e) (kept_by_passes some (pieces_after separates [] line));
-  each = subst (All (FreeOf separates)) (sym e) (all_kept_by some (FreeOf separates) _ (all_free separates [] line tt));
+  none_empty = subst (AllByRecursion (λ w. some w ≡ true)) (sym e) (kept_by_passes some (pieces_after separates [] line));
+  each = subst (AllByRecursion (FreeOf separates)) (sym e) (all_kept_by some (FreeOf separates) _ (all_free separates [] line tt));
   whole = ap (flat_map (λ w. w)) e ∙ joined_words separates [] line;
 }

@@ -3,7 +3,7 @@ use Rattle.std.proofs.Common.{◌≡◌, ℕ, zero, suc, ◌+◌, ◌*◌, ◌/�
 use Rattle.std.proofs.ByRecursion.{IsAscii-from_all, All-get_or}
 use Rattle.std.proofs.lemmas.Str.{IsUtf8-from_ascii}
 use Rattle.std.proofs.lemmas.List.{take_more, take_more_set, take_all, length-set, get_or_past}
-use Rattle.std.specs.List.{AllByRecursion as All}
+use Rattle.std.specs.List.{AllByRecursion}
 use Rattle.std.proofs.lemmas.Bool.{eqb-true, eq-eqb, ne_eqb, and_left, cond-false, cases_lt}
 use Rattle.std.proofs.lemmas.Bool.Decides.{Decides-below_and}
 use Rattle.text.specs.Hex.{nibble_of, both, byte_of, in_front, pairs_of, lower, upper, shown_pairs, hex_of, shown_hex4, is_dash, bytes_of, BytesComeBack, Hex4ComesBack}
@@ -51,7 +51,7 @@ byte_back : (b : ℕ) → b < 256 → byte_of (lower (b / 16)) (lower (b % 16)) 
 byte_back b h =
     (λ i. both 16 (nibble_back (b / 16) (omega arith) i) (nibble_back (b % 16) (omega arith) i)) ∙ ap (λ (n : ℕ). Some n) (omega arith)
 
-pairs_back : (bs : List ℕ) → All (λ b. b < 256) bs → pairs_of (shown_pairs bs) ≡ Some bs
+pairs_back : (bs : List ℕ) → AllByRecursion (λ b. b < 256) bs → pairs_of (shown_pairs bs) ≡ Some bs
 unfolding pairs_of
 pairs_back [] h = refl
 pairs_back (b ∷ bs) h = λ i. in_front (byte_back b h.0 i) (pairs_back bs h.1 i)
@@ -92,7 +92,7 @@ lower_ascii d =
     (λ h. let past : lower d ≡ 0 = get_or_past (codes "0123456789abcdef") d 0 h in omega arith)
     (cases_lt d 16)
 
-all_ascii : (bs : List ℕ) → All (λ c. c < 128) (shown_pairs bs)
+all_ascii : (bs : List ℕ) → AllByRecursion (λ c. c < 128) (shown_pairs bs)
 all_ascii [] = tt
 all_ascii (b ∷ bs) = (lower_ascii (b / 16), (lower_ascii (b % 16), all_ascii bs))
 

@@ -1,6 +1,6 @@
 -- Bytes as pairs of hexadecimal digits, and back.
 use Rattle.std.specs.Prelude.{◌≡◌, ℕ, ◌+◌, ◌-◌, ◌*◌, ◌/◌, ◌%◌, ◌<◌, Bool, cond, ◌&&◌, List, [], ◌∷◌, length, Some, None, codes, Option, ◌==◌, nat_le, slice_index}
-use Rattle.std.specs.List.{AllByRecursion as All}
+use Rattle.std.specs.List.{AllByRecursion}
 
 -- the value of a digit, of either case
 abbrev pub nibble_of : ℕ → Option ℕ
@@ -59,7 +59,7 @@ shown_hex4 n = shown_pairs (n / 256 ∷ n % 256 ∷ [])
 
 -- what is written is read back
 abbrev pub BytesComeBack : Type 0
-BytesComeBack = (bs : List ℕ) → All (λ b. b < 256) bs → bytes_of (hex_of bs) ≡ Some bs
+BytesComeBack = (bs : List ℕ) → AllByRecursion (λ b. b < 256) bs → bytes_of (hex_of bs) ≡ Some bs
 
 abbrev pub Hex4ComesBack : Type 0
 Hex4ComesBack = (n : ℕ) → n < 65536 → hex4_of (shown_hex4 n) ≡ Some n
