@@ -115,9 +115,9 @@ abbrev pub LoadableIsMade : Type 0
 LoadableIsMade = (c : Channel) (m : Message) → Loadable c m → Made m
 
 -- worked figures: a payload of 8 bytes gives M_len 16 and no Data, one of 9 gives 17 and one
-pub record Figures (total m-length datas : ℕ) : Type 0 where
+pub record Figures (total m_length datas : ℕ) : Type 0 where
   pub counted : (m : Message) → length m.destination ≡ 6 → length m.source ≡ 6 → length m.payload ≡ total
-      → take 4 (drop 12 (header_of m).content) ≡ four_bytes m-length
+      → take 4 (drop 12 (header_of m).content) ≡ four_bytes m_length
   pub followed : (m : Message) → length m.payload ≡ total → length (micropackets_of m) ≡ 1 + datas
 
 abbrev pub LengthFigures : Type 0
