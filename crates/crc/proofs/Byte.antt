@@ -1,9 +1,9 @@
 -- Eight bits at once: what a byte does to the register, by what the register's lowest byte becomes.
-use Rattle.std.proofs.Common.{◌≡◌, ℕ, zero, suc, ◌+◌, ◌*◌, ◌/◌, ◌%◌, ◌^◌, ◌<◌, Bool, true, false, cond, eqb, List, ◌∷◌, sym, refl, ap, ◌∙◌, ap₂, pow-suc, arith, pow_pos}
+use Rattle.std.proofs.Common.{◌≡◌, ℕ, zero, suc, ◌+◌, ◌*◌, ◌/◌, ◌%◌, ◌^◌, ◌<◌, Bool, true, false, cond, eqb, List, [], ◌∷◌, sym, refl, ap, ◌∙◌, ap₂, pow-suc, arith, pow_pos}
 use lib.Bits.{bit_xor, xor_assoc, xor_comm, xor_zero_r, xor_shr, xor_mod, xor_shifted, shifted_half, shifted_even}
 use lib.Arith.{mod-mul}
 use Rattle.std.proofs.lemmas.Nat.{shr_split}
-use Rattle.crc.specs.Serial.{odd, differs, step, feed, bits, byte_in, residue}
+use Rattle.crc.specs.Serial.{odd, differs, step, feed, bits, byte_in, through, residue}
 
 swap : (x y z : ℕ) → bit_xor (bit_xor x y) z ≡ bit_xor (bit_xor x z) y
 swap x y z = xor_assoc x y z ∙ ap (bit_xor x) (xor_comm y z) ∙ sym (xor_assoc x z y)
@@ -57,10 +57,13 @@ by_row g r b h =
     ∙ parted g 8 (x / 256) (x % 256)
     ∙ ap (λ (m : ℕ). bit_xor m (feed g (x % 256) (bits 8 0))) (xor_shr r b 8 ∙ ap (bit_xor (r / 256)) z ∙ xor_zero_r (r / 256))
 
--- the same of the register after a byte
-pub byte_by_row : (g r b row : ℕ) → b < 256 → row ≡ feed g (bit_xor r b % 256) (bits 8 0) → bit_xor (r / 256) row ≡ byte_in g r b
+-- the same of the register after a byte, by the register's two bytes
+pub byte_by_row : (g r b : ℕ) → b < 256 → byte_in g r b ≡ bit_xor (r / 256) (feed g (bit_xor (r % 256) b) (bits 8 0))
 unfolding byte_in
-byte_by_row g r b row h e = ap (bit_xor (r / 256)) e ∙ sym (by_row g r b h)
+byte_by_row g r b h =
+    let k : b % 256 ≡ b = omega arith in
+    by_row g r b h
+    ∙ ap (λ (n : ℕ). bit_xor (r / 256) (feed g n (bits 8 0))) (xor_mod r b 8 ∙ ap (bit_xor (r % 256)) k)
 
 -- the lowest bits of a number are those of its remainder
 low_bits : (n m : ℕ) → bits n (m % 2 ^ n) ≡ bits n m
@@ -72,8 +75,8 @@ low_bits (suc n) m =
     ap₂ (λ (a : Bool) (l : ℕ). a ∷ bits n l) e f ∙ ap (λ (l : List Bool). odd m ∷ l) (low_bits n (m / 2))
 
 -- a check of 16 bits goes in as two bytes, the low one first
-pub two_bytes : (g r check : ℕ) → byte_in g (byte_in g r (check % 256)) (check / 256) ≡ residue g r check
-unfolding byte_in residue
-two_bytes g r check =
-    let e : check / 256 ≡ check / 2 / 2 / 2 / 2 / 2 / 2 / 2 / 2 = omega arith in
-    ap₂ (λ (low : List Bool) (k : ℕ). feed g (feed g r low) (bits 8 k)) (low_bits 8 check) e
+pub two_bytes : (g r check : ℕ) → check < 2 ^ 16 → residue g r check ≡ through g r ((check % 256) ∷ (check / 256 % 256) ∷ [])
+unfolding through byte_in residue
+two_bytes g r check h =
+    let e : check / 2 / 2 / 2 / 2 / 2 / 2 / 2 / 2 ≡ check / 256 % 256 = omega arith in
+    sym (ap₂ (λ (low : List Bool) (k : ℕ). feed g (feed g r low) (bits 8 k)) (low_bits 8 check) (sym e))

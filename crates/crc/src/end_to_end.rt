@@ -1,7 +1,5 @@
 // The end-to-end check.
-ghost use Rattle.std.specs.Prelude.{◌≡◌};
-ghost use Rattle.crc.specs.Serial.{Rows};
-ghost use Rattle.std.proofs.Common.{rules};
+ghost use Rattle.std.proofs.Common.{lit<, lit≤};
 
 use crate::check::Check;
 
@@ -13,33 +11,19 @@ impl Check for EndToEndCheck {
 
     const START: u16 = 0xFFFF;
 
-    ghost generator = { 0xD008 };
+    ghost GENERATOR = { 0xD008 };
 
-    ghost start = { 0xFFFF };
+    ghost START = { 0xFFFF };
 
-    ghost term = { Prim.search rules };
+    ghost term = { lit≤ tt };
 
-    ghost fits = { Prim.search rules };
+    ghost fits = { lit< tt };
 
-    ghost begins = { Prim.search rules };
+    ghost begins = { lit< tt };
 
-    fn taps() -> u16 {
-        Self::GENERATOR
+    fn rows() -> &'static [u16; 256] {
+        &ROWS
     }
-
-    fn begin() -> u16 {
-        Self::START
-    }
-
-    fn row(low: u8) -> u16 {
-        rows()[low as usize]
-    }
-}
-
-fn rows() -> &'static [u16; 256]
-    ensures { Rows 0xD008 result.now }
-{
-    &ROWS
 }
 
 // What each byte in the register becomes over eight bits that are 0.

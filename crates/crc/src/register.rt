@@ -6,33 +6,36 @@ ghost use Rattle.crc.specs.Laws.{ShowsABit, ShowsAByte, ShowsABurst, OneBitShows
 use crate::check::Check;
 
 // The register after one byte.
+#[tactic(auto, using(crate::proofs::Byte::byte_by_row))]
 pub fn after_byte<C: Check>(register: u16, byte: u8) -> u16
-    ensures { result ≡ byte_in C.Check.generator register byte }
+    ensures { result ≡ byte_in C.Check.GENERATOR register byte }
 {
-    (register >> 8) ^ C::row(((register ^ byte as u16) % 256) as u8)
+    let [low, high] = register.to_le_bytes();
+    u16::from(high) ^ C::row(low ^ byte)
 }
 
 // The register after bytes, from a register given: a check runs on so.
+#[tactic(auto, using(crate::proofs::Burst::shows_a_byte, crate::proofs::Burst::keeps_its_width), unfolding(crate::specs::Serial::through))]
 pub fn after_bytes<C: Check>(register: u16, bytes: &[u8]) -> u16
-    ensures value { result ≡ through C.Check.generator register bytes.now }
-    ensures bit { ShowsABit C.Check.generator }
-    ensures byte { ShowsAByte C.Check.generator }
-    ensures burst { ShowsABurst C.Check.generator }
-    ensures width { KeepsItsWidth C.Check.generator }
+    ensures value { result ≡ through C.Check.GENERATOR register bytes.now }
+    ensures bit { ShowsABit C.Check.GENERATOR }
+    ensures byte { ShowsAByte C.Check.GENERATOR }
+    ensures burst { ShowsABurst C.Check.GENERATOR }
+    ensures width { KeepsItsWidth C.Check.GENERATOR }
 {
     let mut at = register;
-    for b in bytes {
-        at = after_byte::<C>(at, *b);
+    for byte in bytes {
+        at = after_byte::<C>(at, *byte);
     }
     at
 }
 
 // What is left in the register after a received check, least significant bit first.
+#[tactic(auto, using(crate::proofs::Byte::two_bytes, crate::proofs::Burst::residue_tells, crate::proofs::Flips::one_bit_shows))]
 pub fn left_over<C: Check>(register: u16, check: u16) -> u16
-    ensures value { result ≡ residue C.Check.generator register check }
-    ensures tells { ResidueTells C.Check.generator }
-    ensures flip { OneBitShows C.Check.generator }
+    ensures value { result ≡ residue C.Check.GENERATOR register check }
+    ensures tells { ResidueTells C.Check.GENERATOR }
+    ensures flip { OneBitShows C.Check.GENERATOR }
 {
-    let low = after_byte::<C>(register, (check % 256) as u8);
-    after_byte::<C>(low, (check >> 8) as u8)
+    after_bytes::<C>(register, &check.to_le_bytes())
 }

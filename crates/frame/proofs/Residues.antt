@@ -143,10 +143,11 @@ unfolding syndrome_of link_check covered whole through
 register_after xs bytes =
     let a = bytes 33 in
     let lo : received xs % 256 ≡ get_or xs 33 0 = omega arith in
-    let hi : received xs / 256 ≡ get_or xs 32 0 = omega arith in
+    let b = bytes 32 in
+    let hi : received xs / 256 % 256 ≡ get_or xs 32 0 = omega arith in
     let R = through 0x8408 0xFFFF (pick order xs) in
-    sym (two_bytes 0x8408 R (received xs))
-    ∙ ap₂ (λ (l h : ℕ). byte_in 0x8408 (byte_in 0x8408 R l) h) lo hi
+    two_bytes 0x8408 R (received xs) (received_lt xs bytes)
+    ∙ ap₂ (λ (l h : ℕ). through 0x8408 R (l ∷ h ∷ [])) lo hi
     ∙ sym (through_append (pick order xs) (get_or xs 33 0 ∷ get_or xs 32 0 ∷ []) 0xFFFF)
     ∙ ap (through 0x8408 0xFFFF) (sym (map-append (λ i. get_or xs i 0) order (33 ∷ 32 ∷ [])))
 

@@ -1,7 +1,6 @@
 -- Fields come back out of their frame, and frames out of their fields.
-use Rattle.std.proofs.Common.{◌≡◌, ℕ, ◌+◌, ◌-◌, ◌*◌, ◌/◌, ◌%◌, ◌<◌, ◌≤◌, Bool, true, false, cond, eqb, List, [], ◌∷◌, ◌++◌, length, get_or, drop, refl, ap, ◌∙◌, ap₂, arith, eqb→eq}
-use borrow.Rule.Slice.PartMut.{put_mid}
-use Rattle.std.proofs.lemmas.List.{take-append-drop, drop_more, drop_all, take_at, drop_at, append-nil, get_or-append_right}
+use Rattle.std.proofs.Common.{◌≡◌, ℕ, ◌+◌, ◌-◌, ◌*◌, ◌/◌, ◌%◌, ◌<◌, ◌≤◌, Bool, true, false, cond, eqb, List, [], ◌∷◌, ◌++◌, length, get_or, drop, refl, ap, ◌∙◌, arith, eqb→eq}
+use Rattle.std.proofs.lemmas.List.{take-append-drop, drop_more, drop_all, take_at, get_or-append_right}
 use Rattle.crc.proofs.Table.{at_below}
 use Rattle.frame.specs.declared.channel.Channel.{Channel}
 use Rattle.frame.specs.declared.channel.Channel.TheVariants.{Vc0, Vc1, Vc2, Vc3}
@@ -136,12 +135,6 @@ fields_come_back f content fits n =
     let F : Fields = record { vc = f.vc; kind = f.kind; tail = f.tail; error = f.error; vcr = f.vcr; cr = f.cr; rseq = f.rseq; tseq = f.tseq; ecrc = f.ecrc; lcrc = f.lcrc } in
     let e : fields_of xs ≡ F = cc in
     (e, take_at content (trailer f) 32 n)
-
--- eight bytes written behind 32
-pub placed : (a z b : List ℕ) → length a ≡ 32 → length z ≡ 8 → put_mid 32 8 (a ++ z) b ≡ a ++ b
-placed a z b h k =
-    let n : drop 8 z ≡ [] = drop_all 8 z (omega arith) in
-    ap₂ (λ (p q : List ℕ). p ++ (b ++ q)) (take_at a z 32 h) (ap (drop 8) (drop_at a z 32 h) ∙ n) ∙ ap (λ (q : List ℕ). a ++ q) (append-nil b)
 
 -- a control byte whose parts are known
 control_at : (f : Fields) {k : Kind} {v : Channel} {t e : Bool} → f.kind ≡ k → f.vc ≡ v → f.tail ≡ t → f.error ≡ e → control_byte f ≡ cond e 128 0 + cond t 64 0 + type_of k * 4 + channel_number v

@@ -1,9 +1,9 @@
 -- What the two checks of a frame cover, and what they find out.
-use Rattle.std.specs.Prelude.{◌≡◌, ℕ, ◌+◌, ◌*◌, ◌/◌, ◌%◌, ◌<◌, cond, List, [], ◌∷◌, map, length, Some, None, Option, ◌==◌, ◌≢◌, bit_xor, slice_index, slice_set}
+use Rattle.std.specs.Prelude.{◌≡◌, ℕ, ◌+◌, ◌*◌, ◌/◌, ◌%◌, ◌<◌, List, [], ◌∷◌, map, length, Some, None, Option, ◌≢◌, bit_xor, slice_index, slice_set}
 use Rattle.crc.specs.Laws.{Bytes, flipped}
 use Rattle.crc.specs.Serial.{through, residue}
 use Rattle.frame.specs.declared.refusal.Refusal.{Refusal}
-use Rattle.frame.specs.declared.refusal.Refusal.TheVariants.{BadSize}
+use Rattle.frame.specs.Codec.{size_refusal}
 
 -- the bytes of a frame in the order of transmission, without the link check: eight data bytes, then two bytes of
 -- control bits from c00 up, and so on
@@ -63,7 +63,7 @@ SealedIsGood = (xs : List ℕ) → length xs ≡ 40 → Bytes xs → syndrome_of
 
 -- what is refused where data bytes are to be checked: any length but 32
 abbrev pub data_refusal : ℕ → Option Refusal
-data_refusal size = cond (size == 32) None (Some BadSize)
+data_refusal size = size_refusal 32 size
 
 -- the end-to-end check after the data bytes of one micropacket, from a register given
 unfoldable pub end_check : ℕ → List ℕ → ℕ

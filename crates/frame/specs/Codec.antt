@@ -1,5 +1,6 @@
 -- Fields and frames as people hand them in: what is refused, and what comes of the rest.
 use Rattle.std.specs.Prelude.{ℕ, cond, List, length, Some, None, Ok, Err, Option, Result, ◌==◌, nat_lt}
+use Rattle.std.specs.Borrow.{Bor}
 use Rattle.frame.specs.declared.fields.Fields.{Fields}
 use Rattle.frame.specs.declared.fields.Numbers.{Numbers}
 use Rattle.frame.specs.declared.refusal.Refusal.{Refusal}
@@ -42,9 +43,18 @@ fields_from n =
 abbrev pub from_numbers : Numbers → Result Fields Refusal
 from_numbers n = or_else (numbers_refusal n) (fields_from n)
 
+-- what is refused where n bytes are asked for: any other number of them
+abbrev pub size_refusal : ℕ → ℕ → Option Refusal
+size_refusal n size = cond (size == n) None (Some BadSize)
+
+-- an answer that lends bytes, as the bytes that it lends
+abbrev pub seen : Result (Bor (List ℕ)) Refusal → Result (List ℕ) Refusal
+seen (Ok bytes) = Ok bytes.now
+seen (Err e) = Err e
+
 -- what is refused where a frame is to be read: any length but 40
 abbrev pub frame_refusal : ℕ → Option Refusal
-frame_refusal size = cond (size == 40) None (Some BadSize)
+frame_refusal size = size_refusal 40 size
 
 -- the answer where a frame is read
 abbrev pub parsed : List ℕ → Result Fields Refusal

@@ -3,3 +3,4 @@ pub mod Naming
 pub mod Layout
 pub mod Codec
 pub mod Checks
+pub mod Parts

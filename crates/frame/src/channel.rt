@@ -1,5 +1,5 @@
 // One of the four virtual channels of a link.
-#[derive(Clone, Copy, PartialEq, Eq)]
+#[derive(Clone, Copy, PartialEq, Eq, Debug)]
 pub enum Channel {
     Vc0 = 0,
     Vc1 = 1,

@@ -6,21 +6,19 @@ ghost use Rattle.frame.specs.Codec.{or_else, frame_refusal};
 ghost use Rattle.frame.specs.Checks.{link_check, syndrome_of, sealed_or, data_refusal, end_check, GoodIsZero, StompedIs06A9, FrameBitShows, SealedIsGood};
 
 use crate::refusal::Refusal;
+use crate::sizes::{Content, FrameBytes, sized};
 use crc::{Check, EndToEndCheck, LinkCheck, after_byte, after_bytes, left_over};
 
 // The link check that a frame should have, whatever it has.
 pub fn link_check(frame: &[u8]) -> Result<u16, Refusal>
     ensures { result ≡ or_else (frame_refusal (length frame.now)) (link_check frame.now) }
 {
-    if frame.len() != 40 {
-        return Err(Refusal::BadSize);
-    }
-    Ok(register_over(frame))
+    Ok(register_over(sized(frame)?))
 }
 
 // The register of the link check after all that it covers.
-fn register_over(frame: &[u8]) -> u16
-    requires { length frame.now ≡ 40 }
+#[tactic(auto, using(crate::proofs::Transmitted::in_order), unfolding(crate::specs::Checks::link_check))]
+fn register_over(frame: &FrameBytes) -> u16
     ensures { result ≡ link_check frame.now }
 {
     let start = LinkCheck::begin();
@@ -39,41 +37,44 @@ fn after_ten(register: u16, content: &[u8], low: u8, high: u8) -> u16
 }
 
 // What is left of a frame's link check: 0 for a good frame, x'06A9' for a stomped one.
+#[tactic(auto, using(crate::proofs::Residues::good_is_zero, crate::proofs::Residues::stomped_is_06A9, crate::proofs::Residues::frame_bit_shows))]
 pub fn syndrome(frame: &[u8]) -> Result<u16, Refusal>
     ensures value { result ≡ or_else (frame_refusal (length frame.now)) (syndrome_of frame.now) }
     ensures good { GoodIsZero }
     ensures stomped { StompedIs06A9 }
     ensures flip { FrameBitShows }
 {
-    if frame.len() != 40 {
-        return Err(Refusal::BadSize);
-    }
-    let received = frame[32] as u16 * 256 + frame[33] as u16;
-    Ok(left_over::<LinkCheck>(register_over(frame), received))
+    Ok(syndrome_over(sized(frame)?))
+}
+
+// The same of 40 bytes.
+#[tactic(auto, unfolding(crate::specs::Checks::syndrome_of))]
+pub(crate) fn syndrome_over(frame: &FrameBytes) -> u16
+    ensures { result ≡ syndrome_of frame.now }
+{
+    let received = u16::from_be_bytes([frame[32], frame[33]]);
+    left_over::<LinkCheck>(register_over(frame), received)
 }
 
 // Writes the link check that a frame should have into it.
+#[tactic(auto, using(crate::proofs::Residues::sealed_is_good), unfolding(crate::specs::Checks::sealed))]
 pub fn seal(frame: &mut [u8]) -> Result<(), Refusal>
     ensures value { result ≡ or_else (frame_refusal (length frame.old)) tt }
     ensures bytes { frame.new ≡ sealed_or (frame_refusal (length frame.old)) frame.old }
     ensures good { SealedIsGood }
 {
-    if frame.len() != 40 {
-        return Err(Refusal::BadSize);
-    }
-    let check = register_over(frame);
-    frame[32] = (check / 256) as u8;
-    frame[33] = (check % 256) as u8;
+    let [high, low] = link_check(frame)?.to_be_bytes();
+    frame[32] = high;
+    frame[33] = low;
     Ok(())
 }
 
 // The end-to-end check after the 32 data bytes of a micropacket, run on from a register given.
+#[tactic(auto, using(crc::proofs::Flips::one_bit_shows), unfolding(crate::specs::Checks::end_check))]
 pub fn end_check(register: u16, content: &[u8]) -> Result<u16, Refusal>
     ensures value { result ≡ or_else (data_refusal (length content.now)) (end_check register content.now) }
     ensures flip { OneBitShows 0xD008 }
 {
-    if content.len() != 32 {
-        return Err(Refusal::BadSize);
-    }
+    let content: &Content = sized(content)?;
     Ok(after_bytes::<EndToEndCheck>(register, content))
 }

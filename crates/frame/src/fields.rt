@@ -2,7 +2,7 @@ use crate::channel::Channel;
 use crate::kind::Kind;
 
 // What the last eight bytes of a frame say.
-#[derive(Clone, Copy)]
+#[derive(Clone, Copy, PartialEq, Eq, Debug)]
 pub struct Fields {
     pub vc: Channel,
     pub kind: Kind,
@@ -17,7 +17,7 @@ pub struct Fields {
 }
 
 // The same as numbers that somebody hands in: they may not fit.
-#[derive(Clone, Copy)]
+#[derive(Clone, Copy, PartialEq, Eq, Debug)]
 pub struct Numbers {
     pub vc: u64,
     pub kind: u64,

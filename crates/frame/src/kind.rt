@@ -1,6 +1,6 @@
 // The TYPE of a micropacket. The values that the standard leaves undefined have names of their own, so that a frame
 // can be read and written again as it came.
-#[derive(Clone, Copy, PartialEq, Eq)]
+#[derive(Clone, Copy, PartialEq, Eq, Debug)]
 pub enum Kind {
     Undefined0 = 0,
     Undefined1 = 1,

@@ -1,19 +1,15 @@
 // Enums and the numbers and names that people and frames know them by.
-ghost use Rattle.std.specs.Prelude.{◌≡◌, ◌<◌};
+ghost use Rattle.std.specs.Prelude.{◌≡◌, ◌%◌, ◌<◌, Some};
 ghost use Rattle.frame.specs.Refusals.{number_of, name_of};
 ghost use Rattle.frame.specs.Naming.{type_of, kind_at, kind_or, channel_number, channel_at, channel_or};
 
 use crate::channel::Channel;
 use crate::kind::Kind;
 use crate::refusal::Refusal;
+use std::fmt;
 
 impl Refusal {
-    pub fn number(self) -> u8
-        ensures { result ≡ number_of self }
-    {
-        self as u8
-    }
-
+    // No derive writes these names, since they have underscores.
     pub fn name(self) -> &'static str
         ensures { result.now ≡ name_of self }
     {
@@ -37,6 +33,23 @@ impl Refusal {
     }
 }
 
+impl From<Refusal> for u8 {
+    ghost from_gives = { λ e n. n ≡ number_of e };
+
+    fn from(refusal: Refusal) -> u8 {
+        refusal as u8
+    }
+}
+
+impl fmt::Display for Refusal {
+    ghost output = { λ e. Some (name_of e) };
+
+    fn fmt<W: fmt::Write>(&self, f: &mut fmt::Formatter<W>) -> fmt::Result {
+        f.write_str(self.name())
+    }
+}
+
+// The kinds in the order of their values: no cast leads from a number to an enum.
 const KINDS: [Kind; 16] = [
     Kind::Undefined0,
     Kind::Undefined1,
@@ -57,58 +70,77 @@ const KINDS: [Kind; 16] = [
 ];
 
 impl Kind {
-    // The TYPE value, four bits.
-    pub fn value(self) -> u8
-        ensures { result ≡ type_of self }
+    // The kind that the four lowest bits of a byte say.
+    pub(crate) fn from_bits(byte: u8) -> Kind
+        ensures { result ≡ kind_at (byte % 16) }
     {
-        self as u8
-    }
-
-    // The kind of a TYPE value; above 15 there is none.
-    pub fn from_value(value: u64) -> Result<Kind, Refusal>
-        ensures { result ≡ kind_or value }
-    {
-        if value < 16 {
-            Ok(KINDS[value as usize])
-        } else {
-            Err(Refusal::BadSize)
-        }
-    }
-
-    // The kind that four bits of a byte say.
-    pub(crate) fn from_bits(bits: u8) -> Kind
-        requires { bits < 16 }
-        ensures { result ≡ kind_at bits }
-    {
-        KINDS[bits as usize]
+        KINDS[usize::from(byte % 16)]
     }
 }
 
-const CHANNELS: [Channel; 4] = [Channel::Vc0, Channel::Vc1, Channel::Vc2, Channel::Vc3];
+// The TYPE value, four bits.
+impl From<Kind> for u8 {
+    ghost from_gives = { λ k n. n ≡ type_of k };
+
+    fn from(kind: Kind) -> u8 {
+        kind as u8
+    }
+}
+
+// The kind of a TYPE value; above 15 there is none.
+impl TryFrom<u64> for Kind {
+    type Error = Refusal;
+
+    ghost try_from_gives = { λ n r. r ≡ kind_or n };
+
+    fn try_from(value: u64) -> Result<Kind, Refusal> {
+        KINDS
+            .get(usize::try_from(value)?)
+            .copied()
+            .ok_or(Refusal::BadSize)
+    }
+}
 
 impl Channel {
-    pub fn number(self) -> u8
-        ensures { result ≡ channel_number self }
-    {
-        self as u8
-    }
+    // The channels in the order of their numbers.
+    pub const ALL: [Channel; 4] = [Channel::Vc0, Channel::Vc1, Channel::Vc2, Channel::Vc3];
 
-    // The channel of a number; above 3 there is none.
-    pub fn from_number(number: u64) -> Result<Channel, Refusal>
-        ensures { result ≡ channel_or number }
+    // The channel that the two lowest bits of a byte say.
+    pub(crate) fn from_bits(byte: u8) -> Channel
+        ensures { result ≡ channel_at (byte % 4) }
     {
-        if number < 4 {
-            Ok(CHANNELS[number as usize])
-        } else {
-            Err(Refusal::BadChannel)
-        }
+        Channel::ALL[usize::from(byte % 4)]
     }
+}
 
-    // The channel that two bits of a byte say.
-    pub(crate) fn from_bits(bits: u8) -> Channel
-        requires { bits < 4 }
-        ensures { result ≡ channel_at bits }
-    {
-        CHANNELS[bits as usize]
+impl From<Channel> for u8 {
+    ghost from_gives = { λ c n. n ≡ channel_number c };
+
+    fn from(channel: Channel) -> u8 {
+        channel as u8
+    }
+}
+
+// Where a channel stands among the four.
+impl From<Channel> for usize {
+    ghost from_gives = { λ c n. (n ≡ channel_number c) × (n < 4) };
+
+    fn from(channel: Channel) -> usize {
+        channel as usize
+    }
+}
+
+// The channel of a number; above 3 there is none.
+impl TryFrom<u64> for Channel {
+    type Error = Refusal;
+
+    ghost try_from_gives = { λ n r. r ≡ channel_or n };
+
+    fn try_from(number: u64) -> Result<Channel, Refusal> {
+        // A cast: `?` would refuse a number that is too large as Bad_Size.
+        Channel::ALL
+            .get(number as usize)
+            .copied()
+            .ok_or(Refusal::BadChannel)
     }
 }

@@ -1,27 +1,20 @@
 -- The groups of a frame give that frame.
-use Rattle.std.proofs.Common.{◌≡◌, ℕ, ◌+◌, ◌*◌, ◌/◌, ◌%◌, ◌^◌, ◌<◌, ◌≤◌, true, false, ltb, ◌⊎◌, List, map, length, get_or, ℤ, pos, sym, refl, ap, ◌∙◌, subst, ap₂, inl, inr, arith, lt-ltb}
-use borrow.Author.Tests.{true-ltb, false-ltb}
-use Rattle.std.specs.List.{range_with_len}
+use Rattle.std.proofs.Common.{◌≡◌, ℕ, ◌+◌, ◌*◌, ◌/◌, ◌%◌, ◌^◌, ◌<◌, ◌≤◌, true, List, map, length, get_or, ℤ, pos, sym, ap, ◌∙◌, subst, ap₂, inl, inr, arith, lt-ltb}
+use Rattle.std.proofs.lemmas.Bool.{cases_lt}
+use Rattle.std.proofs.lemmas.List.Elements.{All-from_get_or}
+use Rattle.std.proofs.lemmas.List.Sums.{list_all-from_AllPass}
+use Rattle.std.specs.List.{list_all, range_with_len}
 use Rattle.std.proofs.lemmas.List.FromFn.{get_or-map-range_with_len, length-map-range_with_len}
 use Rattle.std.proofs.lemmas.List.{ext_get_or, get_or_past}
 use Rattle.line.specs.declared.width.Width.{Width}
 use Rattle.line.specs.Code.{decoded, is_word}
 use Rattle.line.specs.Places.{place, group_at}
 use Rattle.line.specs.Tables.{standard_rows}
-use Rattle.line.specs.Groups.{number, frame_bit, group_bit, all, code_at, codes_of, counts_after, word_at, words_of, frame_of}
+use Rattle.line.specs.Groups.{number, frame_bit, group_bit, code_at, codes_of, counts_after, word_at, words_of, frame_of}
 use Rattle.line.proofs.Rows.{standard_good, standard_told}
 use Rattle.line.proofs.Laws.{undone, word_lt}
 use Rattle.line.proofs.Nibbles.{whole, nibble, nibble_bit, low_nibble, high_nibble, source, code_nibble, groups_once}
 use Rattle.line.proofs.Bytes.{byte}
-use Rattle.line.proofs.Passes.{all_from_at}
-
-below_or : (g n : ℕ) → (g < n) ⊎ (n ≤ g)
-below_or g n =
-    elim (ltb g n) as (λ b. b ≡ ltb g n → (g < n) ⊎ (n ≤ g)) [
-      | true ↦ λ e. inl (true-ltb g n e)
-      | false ↦ λ e. inr (false-ltb g n e)
-    ]
-    refl
 
 code_of : (w : Width) (frame : List ℕ) (g : ℕ) → g < 80 → get_or (codes_of w frame) g 0 ≡ nibble frame (source w g)
 unfolding codes_of
@@ -34,7 +27,7 @@ codes_length w frame = length-map-range_with_len (code_at w frame) 0 80
 -- each code has four bits
 pub code_small : (w : Width) (frame : List ℕ) (g : ℕ) → get_or (codes_of w frame) g 0 < 16
 code_small w frame g =
-    elim (below_or g 80) [
+    elim (cases_lt g 80) [
       | inl h ↦ subst (λ (m : ℕ). m < 16) (sym (code_of w frame g h)) (omega arith)
       | inr h ↦
           subst (λ (m : ℕ). m < 16) (sym (get_or_past (codes_of w frame) g 0 (subst (λ (m : ℕ). m ≤ g) (sym (codes_length w frame)) h)))
@@ -51,15 +44,16 @@ unfolding words_of
 words_length lines codes counts = length-map-range_with_len (word_at standard_rows lines codes counts) 0 80
 
 pub are_words :
-    (w : Width) (lines : ℕ) (frame : List ℕ) (counts : List ℤ) → all is_word (words_of standard_rows lines (codes_of w frame) counts) ≡ true
+    (w : Width) (lines : ℕ) (frame : List ℕ) (counts : List ℤ) → list_all is_word (words_of standard_rows lines (codes_of w frame) counts) ≡ true
 are_words w lines frame counts =
-    all_from_at is_word (words_of standard_rows lines (codes_of w frame) counts) 0
+    list_all-from_AllPass is_word (words_of standard_rows lines (codes_of w frame) counts)
+    (All-from_get_or (λ x. is_word x ≡ true) (words_of standard_rows lines (codes_of w frame) counts) 0
     (λ g h.
     let l : g < 80 = omega (arith, words_length lines (codes_of w frame) counts) in
     lt-ltb _ 32
     (subst (λ (m : ℕ). m < 32) (sym (word_of w lines frame counts g l))
     (word_lt standard_rows standard_good (get_or (codes_of w frame) g 0)
-    (get_or (counts_after standard_rows lines (codes_of w frame) counts g) (g % lines) (pos 0)) (code_small w frame g))))
+    (get_or (counts_after standard_rows lines (codes_of w frame) counts g) (g % lines) (pos 0)) (code_small w frame g)))))
 
 -- the group of four bits of a frame is decoded to them
 decodes_to :

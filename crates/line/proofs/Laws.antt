@@ -1,27 +1,28 @@
 -- What a good table does: its words can be looked up, and its counts stay in range.
-use Rattle.std.proofs.Common.{◌≡◌, ℕ, zero, suc, ◌+◌, ◌-◌, ◌<◌, Bool, true, false, cond, T, eqb, ltb, ◌≢◌, ◌⊎◌, List, [], ◌∷◌, length, ℤ, pos, negsuc, ◌≤ℤ◌, Some, Ok, Err, Result, sym, refl, ap, ◌∙◌, subst, inl, inr, arith, eqb→eq, ltb-true, le-ltb, lt-ltb, eq-eqb, ne_eqb}
-use lib.Count.{ones, ones_in}
+use Rattle.std.proofs.Common.{◌≡◌, ℕ, zero, suc, ◌+◌, ◌-◌, ◌<◌, ◌≤◌, Bool, true, false, cond, eqb, ◌≢◌, ◌⊎◌, List, [], ◌∷◌, length, ℤ, pos, negsuc, ◌≤ℤ◌, Some, sym, refl, ap, ◌∙◌, inl, inr, arith, eqb-true, le-ltb, eq-eqb, ne_eqb}
+use lib.Count.{ones, ones_in, ones-le}
 use borrow.Author.Differences.{ints}
-use Rattle.frame.specs.declared.refusal.Refusal.{Refusal}
-use Rattle.frame.specs.declared.refusal.Refusal.TheVariants.{BadSize}
-use Rattle.line.specs.Code.{word_for, count_after, group_of, in_range, coded, decoded, decoding}
-use Rattle.line.specs.Tables.{Good, ToldByT, Stays, Known, standard_rows, first, second, look_up, found_from}
+use Rattle.line.specs.Code.{word_for, count_after, in_range, decoded}
+use Rattle.line.specs.Tables.{Good, ToldByT, standard_rows, first, second, look_up, found_from}
 use Rattle.line.proofs.Computed.{below, at_below}
 use Rattle.line.proofs.Rows.{standard_good, standard_told}
+
+pub few_ones : (word : ℕ) → word < 256 → ones word ≤ 8
+few_ones word h = ones-le 8 word h
 
 five : ℕ → Bool
 five a = eqb (ones a + ones (31 - a)) 5
 
-all_five : T (below five 32)
+all_five : below five 32 ≡ true
 unfolding five ones ones_in
-all_five = tt
+all_five = refl
 
 -- the ones of a word and of its complement are five together
 ones_complement : (a b : ℕ) → a + b ≡ 31 → ones a + ones b ≡ 5
 unfolding five
 ones_complement a b e =
     let d : 31 - a ≡ b = omega arith in
-    ap (λ (x : ℕ). ones a + ones x) (sym d) ∙ eqb→eq (ones a + ones (31 - a)) 5 (at_below five 32 all_five a (omega arith))
+    ap (λ (x : ℕ). ones a + ones x) (sym d) ∙ eqb-true (ones a + ones (31 - a)) 5 (at_below five 32 all_five a (omega arith))
 
 -- a word that stands in row i, and in none before, is found there
 found :
@@ -118,34 +119,16 @@ undone rows g t code count h =
     sym (t (word_for rows code count) (word_lt rows g code count h)) ∙ known rows g code count h in
     cc
 
-pub decodes :
-    (code group : ℕ) (count : ℤ) → code < 16 → group ≡ word_for standard_rows code count → decoding group ≡ Ok code
-decodes code group count h e =
-    let small : group < 32 = omega (arith, word_lt standard_rows standard_good code count h) in
-    rw (lt-ltb group 32 small) (ap Ok (ap decoded e ∙ undone standard_rows standard_good standard_told code count h))
+-- what is coded by the standard's table is decoded again
+pub standard_small : (code : ℕ) (count : ℤ) → code < 16 → word_for standard_rows code count < 32
+standard_small code count h = word_lt standard_rows standard_good code count h
+
+pub standard_undone : (code : ℕ) (count : ℤ) → code < 16 → decoded (word_for standard_rows code count) ≡ code
+standard_undone code count h = undone standard_rows standard_good standard_told code count h
+
+pub ruleset undoing = (standard_small, standard_undone)
 
 pub range_true : (count : ℤ) → in_range count ≡ true → (negsuc 4 ≤ℤ count) × (count ≤ℤ pos 4)
 range_true count e = (grind (arith, ints), grind (arith, ints))
 
--- what holds of each coded group holds of what coding answers
-answered :
-    (P : Result (ℕ × ℤ) Refusal → Type 0) (rows : List (ℕ × ℕ)) (code : ℕ) (count : ℤ) (small range : Bool)
-    → P (Err BadSize) → (small ≡ true → range ≡ true → P (Ok (group_of rows code count)))
-    → P (cond small (cond range (Ok (group_of rows code count)) (Err BadSize)) (Err BadSize))
-answered P rows code count true true wrong fine = fine refl refl
-answered P rows code count true false wrong fine = wrong
-answered P rows code count false range wrong fine = wrong
-
-pub coded_stays :
-    (rows : List (ℕ × ℕ)) → Good rows → (code : ℕ) (count : ℤ) (r : Result (ℕ × ℤ) Refusal) → r ≡ coded rows code count → Stays r
-coded_stays rows g code count r e =
-    subst Stays (sym e)
-    (answered Stays rows code count (ltb code 16) (in_range count) tt
-    (λ s i. stays rows g code count (ltb-true code 16 s) (range_true count i).0 (range_true count i).1))
-
-pub coded_known :
-    (rows : List (ℕ × ℕ)) → Good rows → (code : ℕ) (count : ℤ) (r : Result (ℕ × ℤ) Refusal) → r ≡ coded rows code count
-    → Known rows code r
-coded_known rows g code count r e =
-    subst (Known rows code) (sym e)
-    (answered (Known rows code) rows code count (ltb code 16) (in_range count) tt (λ s i. known rows g code count (ltb-true code 16 s)))
+pub ruleset moves = (ints, few_ones, range_true)

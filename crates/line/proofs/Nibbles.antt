@@ -1,5 +1,6 @@
 -- Four bits of a frame stay together and in order, so that each group is four bits of the frame.
-use Rattle.std.proofs.Common.{◌≡◌, ℕ, zero, suc, ◌+◌, ◌*◌, ◌/◌, ◌%◌, ◌^◌, ◌<◌, Bool, true, false, T, eqb, ◌≢◌, ◌⊎◌, List, length, get_or, set, sym, refl, ap, ◌∙◌, ap₂, inl, inr, arith, eqb→eq, below_more, true-eqb, false-eqb}
+use Rattle.std.proofs.Common.{◌≡◌, ℕ, zero, suc, ◌+◌, ◌*◌, ◌/◌, ◌%◌, ◌^◌, ◌<◌, Bool, true, eqb, ◌≢◌, ◌⊎◌, List, length, get_or, set, sym, refl, ap, ◌∙◌, ap₂, inl, inr, arith, eqb-true, below_more}
+use Rattle.std.proofs.lemmas.Bool.{cases_lt}
 use Rattle.std.proofs.lemmas.List.{get_or-set_same, get_or-set_other}
 use Rattle.line.specs.declared.width.Width.{Width}
 use Rattle.line.specs.declared.width.Width.TheVariants.{Wide, Narrow}
@@ -11,18 +12,18 @@ use Rattle.line.proofs.Once.{permutation, once}
 abbrev whole_at : Width → ℕ → Bool
 whole_at w n = eqb (place w n) (4 * group_at w (n / 4) + n % 4)
 
-whole_test : (w : Width) → T (below (whole_at w) 320)
+whole_test : (w : Width) → below (whole_at w) 320 ≡ true
 unfolding place group_at
-whole_test Wide = tt
-whole_test Narrow = tt
+whole_test Wide = refl
+whole_test Narrow = refl
 
 pub whole : (w : Width) (n : ℕ) → n < 320 → place w n ≡ 4 * group_at w (n / 4) + n % 4
-whole w n h = eqb→eq (place w n) (4 * group_at w (n / 4) + n % 4) (at_below (whole_at w) 320 (whole_test w) n h)
+whole w n h = eqb-true (place w n) (4 * group_at w (n / 4) + n % 4) (at_below (whole_at w) 320 (whole_test w) n h)
 
 pub groups_once : (w : Width) → Permutation 80 (group_at w)
 unfolding place group_at sought
-groups_once Wide = permutation 80 (group_at Wide) tt tt
-groups_once Narrow = permutation 80 (group_at Narrow) tt tt
+groups_once Wide = permutation 80 (group_at Wide) refl refl
+groups_once Narrow = permutation 80 (group_at Narrow) refl refl
 
 -- four bits of a frame
 abbrev pub nibble : List ℕ → ℕ → ℕ
@@ -67,10 +68,7 @@ high x =
     omega arith
 
 parity : (h : ℕ) → (h % 2 ≡ 0) ⊎ (h % 2 ≡ 1)
-parity h = elim (eqb (h % 2) 0) as (λ b. b ≡ eqb (h % 2) 0 → (h % 2 ≡ 0) ⊎ (h % 2 ≡ 1)) [
-  | true ↦ λ e. inl (true-eqb (h % 2) 0 e)
-  | false ↦ λ e. inr (let f = false-eqb (h % 2) 0 e in omega arith)
-] refl
+parity h = elim (cases_lt (h % 2) 1) [ inl l ↦ inl (omega arith) | inr l ↦ inr (omega arith) ]
 
 div_one : (x : ℕ) → x / 1 ≡ x
 div_one x = omega arith

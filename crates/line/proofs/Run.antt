@@ -2,9 +2,10 @@
 use Rattle.std.proofs.Common.{◌≡◌, ℕ, zero, suc, ◌+◌, ◌%◌, ◌<◌, true, List, length, get_or, set, ℤ, pos, negsuc, ◌≤ℤ◌, refl, ap, ◌∙◌, ap₂, add-one, arith}
 use borrow.Author.Differences.{ints}
 use Rattle.std.proofs.lemmas.List.{length-set}
+use Rattle.std.specs.List.{list_all}
 use Rattle.line.specs.Code.{group_of, in_range}
 use Rattle.line.specs.Tables.{Good}
-use Rattle.line.specs.Groups.{all, counts_after, word_at}
+use Rattle.line.specs.Groups.{counts_after, word_at}
 use Rattle.line.proofs.Laws.{stays, range_true}
 use Rattle.line.proofs.Passes.{all_get, all_set}
 
@@ -21,7 +22,7 @@ length_after rows m codes counts (suc g) =
 -- each count stays in range
 pub range_after :
     (rows : List (ℕ × ℕ)) → Good rows → (m : ℕ) (codes : List ℕ) → ((g : ℕ) → get_or codes g 0 < 16) → (counts : List ℤ)
-    → all in_range counts ≡ true → (g : ℕ) → all in_range (counts_after rows m codes counts g) ≡ true
+    → list_all in_range counts ≡ true → (g : ℕ) → list_all in_range (counts_after rows m codes counts g) ≡ true
 unfolding counts_after
 range_after rows good m codes small counts t zero = t
 range_after rows good m codes small counts t (suc g) =

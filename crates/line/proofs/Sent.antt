@@ -1,16 +1,17 @@
 -- The laws of a frame that has gone out as groups.
-use Rattle.std.proofs.Common.{◌≡◌, ℕ, ◌<◌, Bool, true, false, cond, eqb, List, length, get_or, ℤ, Ok, Err, Result, sym, refl, ap, ◌∙◌, subst, eq-eqb, eqb-true}
+use Rattle.std.proofs.Common.{◌≡◌, ℕ, ◌<◌, Bool, true, false, cond, List, length, get_or, ℤ, Ok, Err, Result, sym, refl, ap, ◌∙◌, subst, eq-eqb, arith}
+use Rattle.std.proofs.lemmas.Bool.Decides.{nat_tests}
 use Rattle.frame.specs.declared.refusal.Refusal.{Refusal}
 use Rattle.frame.specs.declared.refusal.Refusal.TheVariants.{BadSize}
+use Rattle.std.specs.List.{list_all}
 use Rattle.line.specs.declared.counts.Counts.{Counts}
 use Rattle.line.specs.declared.counts.Counts.TheVariants.{Wide, Narrow}
 use Rattle.line.specs.Code.{in_range}
 use Rattle.line.specs.Places.{lines}
 use Rattle.line.specs.Tables.{standard_rows}
-use Rattle.line.specs.Groups.{all, codes_of, counts_of, width_of, with_counts, goes, comes, coded_counts, coded_groups, sent, sent_groups, frame_of, Carried, GivenBack, AllStay}
+use Rattle.line.specs.Groups.{codes_of, counts_of, width_of, with_counts, goes, comes, coded_counts, coded_groups, sent, sent_groups, frame_of, Carried, GivenBack, AllStay}
 use Rattle.line.proofs.Rows.{standard_good}
 use Rattle.line.proofs.Run.{range_after}
-use Rattle.line.proofs.Passes.{left, right}
 use Rattle.line.proofs.Back.{code_small, words_length, are_words, carries, given_back}
 
 replaced : (counts : Counts) (after : List ℤ) → counts_of (with_counts counts after) ≡ after
@@ -31,13 +32,13 @@ comes_in counts frame buffer e =
     (are_words w (lines w) frame (counts_of counts))
 
 gone :
-    (counts : Counts) (frame : List ℕ) → ((b : ℕ) → get_or frame b 0 < 256) → length frame ≡ 40 → all in_range (counts_of counts) ≡ true
+    (counts : Counts) (frame : List ℕ) → ((b : ℕ) → get_or frame b 0 < 256) → length frame ≡ 40 → list_all in_range (counts_of counts) ≡ true
     → Laws counts frame (coded_groups counts frame) (Ok (with_counts counts (coded_counts counts frame)))
 gone counts frame bytes len range =
     let w = width_of counts in
     record {
       stay =
-          ap (all in_range) (replaced counts (coded_counts counts frame))
+          ap (list_all in_range) (replaced counts (coded_counts counts frame))
           ∙ range_after standard_rows standard_good (lines w) (codes_of w frame) (code_small w frame) (counts_of counts) range 80;
       carried = carries w (lines w) frame (counts_of counts);
       back = λ buffer e.
@@ -58,13 +59,8 @@ pub laws :
     (counts : Counts) (frame before after : List ℕ) (r : Result Counts Refusal) → ((b : ℕ) → get_or frame b 0 < 256)
     → r ≡ sent counts frame before → after ≡ sent_groups counts frame before → Laws counts frame after r
 laws counts frame before after r bytes e f =
-    let sized = eqb (length frame) 40 in
-    let roomy = eqb (length before) 80 in
-    let range = all in_range (counts_of counts) in
     let here : Laws counts frame (sent_groups counts frame before) (sent counts frame before) =
     by_test counts frame before (goes counts frame before)
-    (λ t.
-    let rest = right sized (cond roomy range false) t in
-    gone counts frame bytes (eqb-true (length frame) 40 (left sized (cond roomy range false) t)) (right roomy range rest)) in
+    (λ t. gone counts frame bytes (grind (arith, nat_tests)) (grind (arith, nat_tests))) in
     subst (λ (x : Result Counts Refusal). Laws counts frame after x) (sym e)
     (subst (λ (xs : List ℕ). Laws counts frame xs (sent counts frame before)) (sym f) here)

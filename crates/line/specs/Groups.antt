@@ -1,6 +1,6 @@
 -- The 80 groups of a frame, coded from the counts of all lines, and the frame of 80 groups.
-use Rattle.std.specs.Prelude.{◌≡◌, ℕ, zero, suc, ◌+◌, ◌*◌, ◌/◌, ◌%◌, ◌^◌, ◌<◌, Bool, true, false, cond, List, [], ◌∷◌, map, length, replicate, ℤ, pos, Ok, Err, Result, ◌==◌, slice_index, slice_index_or, slice_set}
-use Rattle.std.specs.List.{range_with_len}
+use Rattle.std.specs.Prelude.{◌≡◌, ℕ, zero, suc, ◌+◌, ◌*◌, ◌/◌, ◌%◌, ◌^◌, ◌<◌, Bool, true, false, cond, List, map, length, replicate, ℤ, pos, Ok, Err, Result, ◌==◌, slice_index, slice_index_or, slice_set}
+use Rattle.std.specs.List.{range_with_len, list_all}
 use Rattle.frame.specs.declared.refusal.Refusal.{Refusal}
 use Rattle.frame.specs.declared.refusal.Refusal.TheVariants.{BadSize}
 use Rattle.line.specs.declared.width.Width.{Width}
@@ -10,11 +10,6 @@ use Rattle.line.specs.declared.counts.Counts.TheVariants.{Wide, Narrow}
 use Rattle.line.specs.Code.{group_of, decoded, in_range, is_word}
 use Rattle.line.specs.Tables.{standard_rows}
 use Rattle.line.specs.Places.{lines, place, standing}
-
--- a test that every element passes
-unfoldable pub all : {X : Type 0} → (X → Bool) → List X → Bool
-all test [] = true
-all test (x ∷ xs) = cond (test x) (all test xs) false
 
 -- the number with n bits, the least significant first
 unfoldable pub number : ℕ → (ℕ → ℕ) → ℕ
@@ -74,7 +69,7 @@ with_counts (Narrow counts) after = Narrow after
 
 -- a frame goes out if the sizes are right and every count is in range
 abbrev pub goes : Counts → List ℕ → List ℕ → Bool
-goes counts frame groups = cond (length frame == 40) (cond (length groups == 80) (all in_range (counts_of counts)) false) false
+goes counts frame groups = cond (length frame == 40) (cond (length groups == 80) (list_all in_range (counts_of counts)) false) false
 
 abbrev pub coded_counts : Counts → List ℕ → List ℤ
 coded_counts counts frame =
@@ -91,7 +86,7 @@ sent_groups counts frame groups = cond (goes counts frame groups) (coded_groups 
 
 -- groups come in if the sizes are right and every group has five bits
 abbrev pub comes : List ℕ → List ℕ → Bool
-comes groups frame = cond (length groups == 80) (cond (length frame == 40) (all is_word groups) false) false
+comes groups frame = cond (length groups == 80) (cond (length frame == 40) (list_all is_word groups) false) false
 
 abbrev pub received : List ℕ → List ℕ → Result (Unit {0}) Refusal
 received groups frame = cond (comes groups frame) (Ok tt) (Err BadSize)
@@ -118,5 +113,5 @@ GivenBack counts frame groups (Ok after) = Gives (width_of counts) groups frame
 GivenBack counts frame groups (Err e) = Unit {0}
 
 abbrev pub AllStay : Result Counts Refusal → Type 0
-AllStay (Ok after) = all in_range (counts_of after) ≡ true
+AllStay (Ok after) = list_all in_range (counts_of after) ≡ true
 AllStay (Err e) = Unit {0}

@@ -10,7 +10,7 @@ mod width;
 
 pub use code::{code_group, decode_group};
 pub use counts::Counts;
-pub use groups::{frame_to_groups, groups_to_frame};
+pub use groups::{GROUPS_SIZE, Groups, frame_to_groups, groups_to_frame};
 pub use places::place_of;
 pub use table::{CodeTable, standard};
 pub use width::Width;

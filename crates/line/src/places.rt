@@ -5,7 +5,7 @@ ghost use Rattle.line.specs.Places.{Table, Permutation, place, placed, group_at}
 use crate::width::Width;
 use frame::Refusal;
 
-// A row for each byte of a frame, and in it the places of its bits from bit 0 on.
+// A row for each byte of a frame, and in it the places of its bits from bit 0 on. Written out, so that a place is looked up.
 static WIDE: [[u16; 8]; 40] = [
     [0, 1, 2, 3, 4, 5, 6, 7],
     [8, 9, 10, 11, 12, 13, 14, 15],
@@ -49,6 +49,7 @@ static WIDE: [[u16; 8]; 40] = [
     [64, 65, 66, 67, 68, 69, 70, 71],
 ];
 
+// The same for the narrow system: each width has a table of its own.
 static NARROW: [[u16; 8]; 40] = [
     [0, 1, 2, 3, 40, 41, 42, 43],
     [4, 5, 6, 7, 44, 45, 46, 47],
@@ -103,15 +104,14 @@ fn places(width: Width) -> &'static [[u16; 8]; 40]
 }
 
 // Where bit n of a frame stands, which is bit n mod 8 of byte n div 8.
+#[tactic(auto, using(crate::proofs::Once::once))]
 pub fn place_of(width: Width, bit: u64) -> Result<u16, Refusal>
     ensures is { result ≡ placed width bit }
     ensures once { Permutation 320 (place width) }
 {
-    if bit >= 320 {
-        return Err(Refusal::BadSize);
-    }
-    let n = bit as usize;
-    Ok(places(width)[n / 8][n % 8])
+    let bit = usize::try_from(bit)?;
+    let row = places(width).get(bit / 8).ok_or(Refusal::BadSize)?;
+    Ok(row[bit % 8])
 }
 
 // The groups that have the low and the high four bits of a byte, which stay together and in order at both widths.
@@ -121,6 +121,6 @@ pub(crate) fn groups_of(width: Width, byte: usize) -> (usize, usize)
     ensures high { result.1 ≡ group_at width (2 * byte + 1) }
     ensures within { (result.0 < 80) × (result.1 < 80) }
 {
-    let row = places(width)[byte];
-    (row[0] as usize / 4, row[4] as usize / 4)
+    let [low, _, _, _, high, ..] = places(width)[byte];
+    (usize::from(low / 4), usize::from(high / 4))
 }

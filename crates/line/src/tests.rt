@@ -2,20 +2,20 @@
 use crate::{
     Counts, Width, code_group, decode_group, frame_to_groups, groups_to_frame, place_of, standard,
 };
-use frame::Refusal;
+use frame::{FrameBytes, Refusal};
 use std::process::Abort;
 use std::test::Fail;
 
-const FRAME: [u8; 40] =
+const FRAME: FrameBytes =
     *b"\x0a\x0b\x0c\x0d\x0e\x0f\x01\x02\x03\x04\x05\x06\x00\x00\x00\x11\xaa\xaa\x03\x00\
     \x00\x00\x81\x81\x00\x11\x22\x33\x44\x55\x66\x77\xeb\x3d\x7d\x47\x00\x00\x08\x24";
 
 // A frame goes out and comes back.
-fn round(rt: &impl Abort, width: Width, frame: &[u8; 40]) -> [u8; 80] {
+fn round(rt: &impl Abort, width: Width, frame: &FrameBytes) -> [u8; 80] {
     let mut groups = [0u8; 80];
     assert!(rt; frame_to_groups(frame, Counts::new(width), &mut groups).is_ok());
     let mut back = [0u8; 40];
-    assert!(rt; groups_to_frame(width, &groups, &mut back).is_ok());
+    assert_eq!(rt; groups_to_frame(width, &groups, &mut back), Ok(()));
     assert_eq!(rt; back, *frame);
     groups
 }
@@ -23,13 +23,13 @@ fn round(rt: &impl Abort, width: Width, frame: &[u8; 40]) -> [u8; 80] {
 #[test]
 fn each_bit_alone(rt: HostRuntime) -> Result<(), Fail> {
     for width in [Width::Wide, Width::Narrow] {
-        for bit in 0..320u64 {
+        for bit in 0..320u16 {
             let mut frame = [0u8; 40];
-            frame[bit as usize / 8] = 1 << (bit % 8);
+            frame[usize::from(bit / 8)] = 1 << (bit % 8);
             let groups = round(&rt, width, &frame);
-            let place = place_of(width, bit).ok().ok_or("place")? as usize;
+            let place = usize::from(place_of(width, u64::from(bit))?);
             assert!(rt; place < 320);
-            let code = decode_group(groups[place / 4] as u64).ok().ok_or("group")?;
+            let code = decode_group(u64::from(groups[place / 4]))?;
             assert_eq!(rt; code, 1 << (place % 4));
         }
     }
@@ -38,16 +38,16 @@ fn each_bit_alone(rt: HostRuntime) -> Result<(), Fail> {
 
 #[test]
 fn codes_at_counts(rt: HostRuntime) -> Result<(), Fail> {
-    for code in 0..16u64 {
-        for count in [-5i64, -4, -3, -2, -1, 0, 1, 2, 3, 4] {
-            let (word, after) = code_group(standard(), code, count).ok().ok_or("code")?;
-            assert!(rt; -5 <= after && after <= 4);
-            assert_eq!(rt; decode_group(word as u64).ok(), Some(code as u8));
+    for code in 0..16u8 {
+        for count in -5..=4i64 {
+            let (word, after) = code_group(standard(), u64::from(code), count)?;
+            assert!(rt; (-5..=4).contains(&after));
+            assert_eq!(rt; decode_group(u64::from(word)), Ok(code));
         }
     }
-    assert_eq!(rt; code_group(standard(), 0b0001, 1).ok(), Some((0b00101, 0)));
-    assert_eq!(rt; code_group(standard(), 0b1111, -1).ok(), Some((0b11111, 4)));
-    assert_eq!(rt; code_group(standard(), 0b1111, 0).ok(), Some((0b00000, -5)));
+    assert_eq!(rt; code_group(standard(), 0b0001, 1), Ok((0b00101, 0)));
+    assert_eq!(rt; code_group(standard(), 0b1111, -1), Ok((0b11111, 4)));
+    assert_eq!(rt; code_group(standard(), 0b1111, 0), Ok((0b00000, -5)));
     Ok(())
 }
 
@@ -66,21 +66,12 @@ fn groups_of_a_frame(rt: HostRuntime) {
     assert_eq!(rt; round(&rt, Width::Narrow, &FRAME), narrow);
 }
 
-// The number of a refusal, or 0.
-fn number_of<T: Drop>(answer: Result<T, Refusal>) -> u8 {
-    match answer {
-        Ok(_) => 0,
-        Err(why) => why.number(),
-    }
-}
-
 // Whether a frame is refused, with every group as it was.
 fn refused(rt: &impl Abort, frame: &[u8], counts: Counts, groups: &mut [u8]) {
     groups.fill(7);
-    assert_eq!(rt; number_of(frame_to_groups(frame, counts, groups)), 6);
-    for group in groups {
-        assert_eq!(rt; *group, 7);
-    }
+    let answer = frame_to_groups(frame, counts, groups);
+    assert_eq!(rt; answer.err(), Some(Refusal::BadSize));
+    assert!(rt; groups.iter().all(|group| *group == 7));
 }
 
 #[test]
@@ -110,41 +101,38 @@ fn wrong_groups(rt: HostRuntime) {
     let mut groups = [4u8; 80];
     groups[79] = 32;
     assert_eq!(rt;
-        number_of(groups_to_frame(Width::Wide, &groups, &mut frame)),
-        6
+        groups_to_frame(Width::Wide, &groups, &mut frame),
+        Err(Refusal::BadSize)
     );
     assert_eq!(rt;
-        number_of(groups_to_frame(Width::Narrow, &[4; 79], &mut frame)),
-        6
+        groups_to_frame(Width::Narrow, &[4; 79], &mut frame),
+        Err(Refusal::BadSize)
     );
     assert_eq!(rt;
-        number_of(groups_to_frame(Width::Narrow, &[4; 81], &mut frame)),
-        6
+        groups_to_frame(Width::Narrow, &[4; 81], &mut frame),
+        Err(Refusal::BadSize)
     );
     assert_eq!(rt; frame, FRAME);
     groups[79] = 31;
     assert_eq!(rt;
-        number_of(groups_to_frame(Width::Wide, &groups, &mut [0; 39])),
-        6
+        groups_to_frame(Width::Wide, &groups, &mut [0; 39]),
+        Err(Refusal::BadSize)
     );
     assert_eq!(rt;
-        number_of(groups_to_frame(Width::Wide, &groups, &mut [0; 41])),
-        6
+        groups_to_frame(Width::Wide, &groups, &mut [0; 41]),
+        Err(Refusal::BadSize)
     );
-    assert_eq!(rt;
-        number_of(groups_to_frame(Width::Wide, &groups, &mut frame)),
-        0
-    );
+    assert_eq!(rt; groups_to_frame(Width::Wide, &groups, &mut frame), Ok(()));
 }
 
 #[test]
 fn wrong_numbers(rt: HostRuntime) {
-    assert_eq!(rt; number_of(code_group(standard(), 16, 0)), 6);
-    assert_eq!(rt; number_of(code_group(standard(), u64::MAX, 0)), 6);
-    assert_eq!(rt; number_of(code_group(standard(), 3, 5)), 6);
-    assert_eq!(rt; number_of(code_group(standard(), 3, -6)), 6);
-    assert_eq!(rt; number_of(code_group(standard(), 3, i64::MIN)), 6);
-    assert_eq!(rt; number_of(decode_group(32)), 6);
-    assert_eq!(rt; number_of(decode_group(u64::MAX)), 6);
-    assert_eq!(rt; number_of(place_of(Width::Narrow, 320)), 6);
+    assert_eq!(rt; code_group(standard(), 16, 0), Err(Refusal::BadSize));
+    assert_eq!(rt; code_group(standard(), u64::MAX, 0), Err(Refusal::BadSize));
+    assert_eq!(rt; code_group(standard(), 3, 5), Err(Refusal::BadSize));
+    assert_eq!(rt; code_group(standard(), 3, -6), Err(Refusal::BadSize));
+    assert_eq!(rt; code_group(standard(), 3, i64::MIN), Err(Refusal::BadSize));
+    assert_eq!(rt; decode_group(32), Err(Refusal::BadSize));
+    assert_eq!(rt; decode_group(u64::MAX), Err(Refusal::BadSize));
+    assert_eq!(rt; place_of(Width::Narrow, 320), Err(Refusal::BadSize));
 }

@@ -1,29 +1,31 @@
 -- The laws of an end.
-use Rattle.std.proofs.Common.{◌≡◌, ℕ, ◌+◌, ◌-◌, Bool, true, false, cond, eqb, ltb, leb, List, [], ◌∷◌, ◌++◌, length, drop, Some, None, Ok, Err, Option, Result, sym, refl, ap, ◌∙◌, subst, append-nil, arith, get_or-set_other, drop-drop, eqb-true}
+use Rattle.std.proofs.Common.{◌≡◌, ℕ, ◌+◌, ◌-◌, Bool, true, false, cond, eqb, ltb, leb, List, [], ◌∷◌, ◌++◌, length, drop, Some, None, Ok, Err, Option, Result, sym, refl, ap, ◌∙◌, subst, append-nil, arith, rules, get_or-set_other, drop-drop, eqb-true}
 use lib.Seq.{drop-length}
+use Rattle.std.proofs.lemmas.Option.{none-some}
 use Rattle.std.specs.List.{slice_get}
+use Rattle.std.specs.Result.{result_err}
 use Rattle.frame.specs.declared.channel.Channel.{Channel}
+use Rattle.frame.specs.declared.parts.Parts.{Parts}
 use Rattle.frame.specs.declared.refusal.Refusal.{Refusal}
 use Rattle.frame.specs.declared.refusal.Refusal.TheVariants.{NotNormal, MessageOpen, NoMessage, NothingSent}
 use Rattle.frame.specs.declared.kind.Kind.TheVariants.{CreditOnly, Data, Header, Admin}
 use Rattle.frame.specs.Checks.{data_refusal}
 use Rattle.frame.specs.Codec.{or_else, frame_refusal}
 use Rattle.numbers.proofs.Calls.{found}
-use Rattle.link.specs.declared.body.Body.{Body}
+use Rattle.link.specs.declared.micropacket.Body.{Body}
 use Rattle.link.specs.declared.micropacket.Micropacket.{Micropacket}
-use Rattle.link.specs.declared.micropacket.Held.{Held}
+use Rattle.link.specs.declared.micropacket.Cargo.{Cargo}
 use Rattle.link.specs.declared.phase.Phase.{Phase}
 use Rattle.link.specs.declared.phase.Phase.TheVariants.{Normal, Shutdown}
 use Rattle.link.specs.declared.answer.Answer.TheVariants.{Discarded}
 use Rattle.link.specs.declared.answer.Cause.{Cause}
 use Rattle.link.specs.declared.answer.Cause.TheVariants as causes
-use Rattle.link.specs.declared.received.Received.{Received}
 use Rattle.link.specs.declared.sort.Sort.{Sort}
 use Rattle.link.specs.declared.sort.Sort.TheVariants.{Idle, Control, Credit, Afresh, Onward}
 use Rattle.link.specs.declared.event.Event.{Event}
 use Rattle.link.specs.declared.event.Event.TheVariants.{LcrcError, TseqError, EcrcError, RetryCount, RetryFailureError, RseqOutOfRangeError, RseqMissingError}
 use Rattle.link.specs.Acknowledging.{freed_by, freed_front, acknowledged_by, acknowledged, credited, oldest_of}
-use Rattle.link.specs.Calls.{opens, adds, cuts, admins, sends, receives, times_out, takes, returns, reads_event, refusal_in}
+use Rattle.link.specs.Calls.{opens, adds, cuts, admins, sends, receives, times_out, takes, returns, reads_event}
 use Rattle.frame.specs.Naming.{channel_number}
 use Rattle.link.specs.declared.record.Core.{Core}
 use Rattle.link.specs.Credit.{next_waiting, told_off, updated_at}
@@ -33,7 +35,7 @@ use Rattle.link.specs.Loading.{body_of, put, loaded, has_room}
 use Rattle.link.specs.Log.{kept, logged, or_nothing}
 use Rattle.link.specs.Numbering.{numbers, no_number}
 use Rattle.link.specs.Checking.{zeros, sort_of}
-use Rattle.link.specs.Messages.{ready, with_room, left_on, heading_made, piece_made, admin_channel, open_found, add_found, cut_found, admin_found}
+use Rattle.link.specs.Messages.{ready, cargo, with_room, left_on, heading_made, piece_made, admin_channel, open_found, add_found, cut_found, admin_found}
 use Rattle.link.specs.Outcomes.{and_then, if_normal, end_after}
 use Rattle.link.specs.Receiving.{read_made, tseq_marked, outcome, verdict_by, verdict, noted, entered, overflowed, credited_in, sequenced, carried_in, admitted, judged_by, judged, receive_found, cause_of}
 use Rattle.link.specs.Repeating.{begun_again, shut_down, repeated, timeout_found}
@@ -50,7 +52,7 @@ update_at_one :
     o ≡ Some channel →
     (channel_number other ≡ channel_number channel → ⊥) →
     record_of (updated_at c o) other ≡ record_of c other
-update_at_one c channel other None e apart = let z : ◌≡◌ {A = ℕ} 0 1 = cc in absurd (omega arith)
+update_at_one c channel other None e apart = absurd (cc)
 update_at_one c channel other (Some named) e apart =
     let z : named ≡ channel = cc in
     get_or-set_other c.channels (channel_number named) (channel_number other) (told_off (record_of c named)) no_record
@@ -122,19 +124,19 @@ unfolding credited
 credit_sheds s channel cr =
     shed_either s.output _ _ _ (shut_sheds _) (shed_same s.output)
 
-credit_in_sheds : (phase : Phase) (s : State) (r : Received) → Shed s.output (credited_in phase s r).output
+credit_in_sheds : (phase : Phase) (s : State) (r : Parts) → Shed s.output (credited_in phase s r).output
 credit_in_sheds Normal s r = credit_sheds s _ _
 credit_in_sheds Shutdown s r = shed_same s.output
 
-sequence_sheds : (s : State) (r : Received) → Shed s.output (sequenced s r).output
+sequence_sheds : (s : State) (r : Parts) → Shed s.output (sequenced s r).output
 unfolding sequenced
 sequence_sheds s r = shed_then _ _ _ (ack_sheds _ _) (credit_in_sheds _ _ r)
 
-enter_same : (s : State) (r : Received) → (entered s r).output ≡ s.output
+enter_same : (s : State) (r : Parts) → (entered s r).output ≡ s.output
 unfolding entered
 enter_same s r = refl
 
-carry_sheds : (s : State) (r : Received) → Shed s.output (carried_in s r).output
+carry_sheds : (s : State) (r : Parts) → Shed s.output (carried_in s r).output
 unfolding carried_in overflowed
 carry_sheds s r =
     shed_either s.output _ _ _
@@ -142,7 +144,7 @@ carry_sheds s r =
     record { gone = h.gone; is = h.is ∙ ap (λ l. drop h.gone l) (enter_same s r) })
     (shut_sheds _)
 
-admit_sheds : (sort : Sort) (s : State) (r : Received) → Shed s.output (admitted sort s r).output
+admit_sheds : (sort : Sort) (s : State) (r : Parts) → Shed s.output (admitted sort s r).output
 unfolding admitted
 admit_sheds Idle s r = ack_sheds s _
 admit_sheds Control s r = shed_same s.output
@@ -158,11 +160,11 @@ note_sheds s causes.Lcrc = shed_same s.output
 note_sheds s causes.Tseq = shed_either s.output _ _ _ (shed_same s.output) (shed_same s.output)
 note_sheds s causes.Ecrc = shed_same s.output
 
-judge_by_sheds : (s : State) (r : Received) (o : Option Cause) → Shed s.output (judged_by s r o).output
+judge_by_sheds : (s : State) (r : Parts) (o : Option Cause) → Shed s.output (judged_by s r o).output
 judge_by_sheds s r (Some cause) = note_sheds s cause
 judge_by_sheds s r None = admit_sheds _ s r
 
-judge_sheds : (s : State) (r : Received) → Shed s.output (judged s r).output
+judge_sheds : (s : State) (r : Parts) → Shed s.output (judged s r).output
 unfolding judged
 judge_sheds s r = judge_by_sheds s r (cause_of s.core r)
 
@@ -214,7 +216,7 @@ open_every P s n d so e total first h =
     every_either P (ltb 0 (left_on s channel)) (Err MessageOpen) _ (every_err P MessageOpen)
     (every_then {X = List ℕ} P (heading_made channel d so e total first) _ (λ content.
     every_then {X = Unit {0}} P (with_room s channel) _ (λ u.
-    every_ok P _ (h (body_of s.core channel Header (leb total 8) false content) (total - 8))))))
+    every_ok P _ (h (body_of s.core channel (cargo Header (leb total 8) false content)) (total - 8))))))
 
 add_every :
     (P : State → Type 0) (s : State) (n : ℕ) (bytes : List ℕ) →
@@ -225,7 +227,7 @@ add_every P s n bytes h =
     every_either P (eqb (left_on s channel) 0) (Err NoMessage) _ (every_err P NoMessage)
     (every_then {X = List ℕ} P (piece_made (left_on s channel) bytes) _ (λ content.
     every_then {X = Unit {0}} P (with_room s channel) _ (λ u.
-    every_ok P _ (h (body_of s.core channel Data (leb (left_on s channel) 32) false content) (left_on s channel - 32))))))
+    every_ok P _ (h (body_of s.core channel (cargo Data (leb (left_on s channel) 32) false content)) (left_on s channel - 32))))))
 
 cut_every :
     (P : State → Type 0) (s : State) (n : ℕ) → ((body : Body) (left : ℕ) → P (put s body left)) → Every P (cut_found s n)
@@ -233,7 +235,7 @@ cut_every P s n h =
     every_then {X = Channel} P (ready s n) _ (λ channel.
     every_either P (eqb (left_on s channel) 0) (Err NoMessage) _ (every_err P NoMessage)
     (every_then {X = Unit {0}} P (with_room s channel) _ (λ u.
-    every_ok P _ (h (body_of s.core channel Data true true zeros) 0))))
+    every_ok P _ (h (body_of s.core channel (cargo Data true true zeros)) 0))))
 
 admin_every :
     (P : State → Type 0) (s : State) (n : ℕ) (bytes : List ℕ) →
@@ -244,10 +246,10 @@ admin_every P s n bytes h =
     every_normal P s.core.phase _ (every_either P (ltb 0 (left_on s channel)) (Err MessageOpen) _ (every_err P MessageOpen)
     (every_then {X = List ℕ} P (or_else (data_refusal (length bytes)) bytes) _ (λ content.
     every_then {X = Unit {0}} P (with_room s channel) _ (λ u.
-    every_ok P _ (h (body_of s.core channel Admin true false content) 0))))))
+    every_ok P _ (h (body_of s.core channel (cargo Admin true false content)) 0))))))
 
 receive_shifts : (s : State) (frame : List ℕ) → Every (Shifts s) (receive_found s frame)
-receive_shifts s frame = every_then {X = Received} (Shifts s) (read_made frame) _ (λ r. every_ok (Shifts s) (judged s r) (shifted _ _ (judge_sheds s r)))
+receive_shifts s frame = every_then {X = Parts} (Shifts s) (read_made frame) _ (λ r. every_ok (Shifts s) (judged s r) (shifted _ _ (judge_sheds s r)))
 
 timeout_shifts : (s : State) → Every (Shifts s) (timeout_found s)
 timeout_shifts s =
@@ -278,7 +280,7 @@ send_shifts None s = gone_in_shifts s.core.phase s
 send_shifts (Some e) s = shifted _ _ (shed_same s.output)
 
 -- taking and returning
-take_shifts : (s : State) (n : ℕ) (r : Result Held Refusal) → Shifts s (take_after s n r)
+take_shifts : (s : State) (n : ℕ) (r : Result Cargo Refusal) → Shifts s (take_after s n r)
 take_shifts s n (Ok h) = shifted _ _ (shed_same s.output)
 take_shifts s n (Err e) = shifted _ _ (shed_same s.output)
 
@@ -299,28 +301,25 @@ held_unchanged (returns channel) s = return_shifts s channel (return_refusal s c
 held_unchanged reads_event s = shifted _ _ (shed_same s.output)
 
 -- a refused call changes nothing
-never : {X : Type 0} {x : X} → None ≡ Some x → ⊥
-never e = let z : ◌≡◌ {A = ℕ} 0 1 = cc in omega arith
-
-end_same : (s : State) (r : Result State Refusal) (why : Refusal) → refusal_in r ≡ Some why → end_after s r ≡ s
-end_same s (Ok t) why e = absurd (never e)
+end_same : (s : State) (r : Result State Refusal) (why : Refusal) → result_err r ≡ Some why → end_after s r ≡ s
+end_same s (Ok t) why e = absurd (none-some _ e)
 end_same s (Err f) why e = refl
 
 send_same : (s : State) (o : Option Refusal) (why : Refusal) → o ≡ Some why → send_after o s ≡ s
-send_same s None why e = absurd (never e)
+send_same s None why e = absurd (none-some _ e)
 send_same s (Some f) why e = refl
 
-take_same : (s : State) (n : ℕ) (r : Result Held Refusal) (why : Refusal) → refusal_in r ≡ Some why → take_after s n r ≡ s
-take_same s n (Ok t) why e = absurd (never e)
+take_same : (s : State) (n : ℕ) (r : Result Cargo Refusal) (why : Refusal) → result_err r ≡ Some why → take_after s n r ≡ s
+take_same s n (Ok t) why e = absurd (none-some _ e)
 take_same s n (Err f) why e = refl
 
 return_same : (s : State) (channel : Channel) (o : Option Refusal) (why : Refusal) → o ≡ Some why → return_after s channel o ≡ s
-return_same s channel None why e = absurd (never e)
+return_same s channel None why e = absurd (none-some _ e)
 return_same s channel (Some f) why e = refl
 
-event_same : (s : State) (events : List Event) (why : Refusal) → refusal_in (or_nothing (slice_get events 0)) ≡ Some why → drop 1 events ≡ events
+event_same : (s : State) (events : List Event) (why : Refusal) → result_err (or_nothing (slice_get events 0)) ≡ Some why → drop 1 events ≡ events
 event_same s [] why e = refl
-event_same s (x ∷ xs) why e = absurd (never e)
+event_same s (x ∷ xs) why e = absurd (none-some _ e)
 
 pub refused_unchanged : RefusedUnchanged
 refused_unchanged (opens n d so e total first) s why h = end_same s (open_found s n d so e total first) why h
@@ -339,10 +338,10 @@ put_appends : (s : State) (body : Body) (left : ℕ) → Appended s (put s body 
 unfolding put
 put_appends s body left = record { one = _; is = refl; number = refl }
 
-end_appends : (s : State) (r : Result State Refusal) → Every (Appended s) r → refusal_in r ≡ None → Appended s (end_after s r)
+end_appends : (s : State) (r : Result State Refusal) → Every (Appended s) r → result_err r ≡ None → Appended s (end_after s r)
 unfolding Every
 end_appends s (Ok t) p e = p
-end_appends s (Err f) p e = absurd (never (sym e))
+end_appends s (Err f) p e = absurd (none-some _ (sym e))
 
 pub loads_one : LoadsOne
 loads_one (opens n d so e total first) s l h = end_appends s (open_found s n d so e total first) (open_every (Appended s) s n d so e total first (put_appends s)) h
@@ -364,44 +363,15 @@ freed_either count s false t u p q = q refl
 free_frees : (s : State) (count rseq : ℕ) → Freed count s (freed_front s count rseq)
 unfolding freed_front
 free_frees s count rseq =
-    freed_either count s (eqb count 0) _ _
-    (λ e. let z : count ≡ 0 = eqb-true count 0 e in
-    record {
-      output = ap (λ n. drop n s.output) (sym z);
-      window = refl;
-      held = refl;
-      capacities = refl;
-      events = refl;
-      event_room = refl;
-      phase = refl;
-      next = refl;
-      accepted = refl;
-      named = refl;
-      channels = refl;
-      counters = refl;
-    })
-    (λ e. record {
-      output = refl;
-      window = refl;
-      held = refl;
-      capacities = refl;
-      events = refl;
-      event_room = refl;
-      phase = refl;
-      next = refl;
-      accepted = refl;
-      named = refl;
-      channels = refl;
-      counters = refl;
-    })
+    freed_either count s (eqb count 0) _ _ (λ e. let z : count ≡ 0 = eqb-true count 0 e in search rules) (λ e. search rules)
 
 ack_by_frees : (s : State) (rseq count : ℕ) (o : Option ℕ) → o ≡ Some count → Freed count s (acknowledged_by s rseq o)
-ack_by_frees s rseq count None e = absurd (never e)
+ack_by_frees s rseq count None e = absurd (none-some _ e)
 ack_by_frees s rseq count (Some n) e = let z : n ≡ count = cc in subst (λ k. Freed k s (freed_front s n rseq)) z (free_frees s n rseq)
 
 ack_frees : (s : State) (rseq count : ℕ) (b : Bool) → b ≡ false → freed_by s rseq ≡ Some count
     → Freed count s (cond b s (acknowledged_by s rseq (freed_by s rseq)))
-ack_frees s rseq count true e legal = absurd (let z : ◌≡◌ {A = ℕ} 0 1 = cc in omega arith)
+ack_frees s rseq count true e legal = absurd (cc)
 ack_frees s rseq count false e legal = ack_by_frees s rseq count (freed_by s rseq) legal
 
 pub legal_frees : LegalFrees
@@ -415,72 +385,13 @@ legal_by_number s rseq count h long c =
 
 -- a discarded frame
 log_only : (s : State) (event : Event) → OnlyLog s (logged s event)
-log_only s event =
-    let h = kept_few s.events s.event_room event in
-    record {
-      phase = refl;
-      limit = refl;
-      repeats = refl;
-      place = refl;
-      sent = refl;
-      next = refl;
-      accepted = refl;
-      taken = refl;
-      named = refl;
-      channels = refl;
-      output = refl;
-      window = refl;
-      held = refl;
-      capacities = refl;
-      event_room = refl;
-      few = h.0;
-      events = h.1;
-    }
+log_only s event = search (rules, kept_few)
 
 mark_log_only : (s : State) → OnlyLog s (logged (with_core s (tseq_marked s.core)) TseqError)
-mark_log_only s =
-    let h = kept_few s.events s.event_room TseqError in
-    record {
-      phase = refl;
-      limit = refl;
-      repeats = refl;
-      place = refl;
-      sent = refl;
-      next = refl;
-      accepted = refl;
-      taken = refl;
-      named = refl;
-      channels = refl;
-      output = refl;
-      window = refl;
-      held = refl;
-      capacities = refl;
-      event_room = refl;
-      few = h.0;
-      events = h.1;
-    }
+mark_log_only s = search (rules, kept_few)
 
 same_only : (s : State) → OnlyLog s s
-same_only s =
-    record {
-      phase = refl;
-      limit = refl;
-      repeats = refl;
-      place = refl;
-      sent = refl;
-      next = refl;
-      accepted = refl;
-      taken = refl;
-      named = refl;
-      channels = refl;
-      output = refl;
-      window = refl;
-      held = refl;
-      capacities = refl;
-      event_room = refl;
-      few = [];
-      events = sym (append-nil s.events);
-    }
+same_only s = search rules
 
 note_tseq_only : (s : State) (b : Bool) → OnlyLog s (cond b s (logged (with_core s (tseq_marked s.core)) TseqError))
 note_tseq_only s true = same_only s
@@ -495,22 +406,23 @@ note_only s causes.Tseq = note_tseq_only s s.core.tseq_logged
 note_only s causes.Ecrc = log_only s EcrcError
 
 outcome_let_in : (phase : Phase) (sort : Sort) (cause : Cause) → outcome phase sort ≡ Discarded cause → ⊥
-outcome_let_in Normal Idle cause e = let z : ◌≡◌ {A = ℕ} 0 1 = cc in omega arith
-outcome_let_in Normal Control cause e = let z : ◌≡◌ {A = ℕ} 0 1 = cc in omega arith
-outcome_let_in Normal Credit cause e = let z : ◌≡◌ {A = ℕ} 0 1 = cc in omega arith
-outcome_let_in Normal Afresh cause e = let z : ◌≡◌ {A = ℕ} 0 1 = cc in omega arith
-outcome_let_in Normal Onward cause e = let z : ◌≡◌ {A = ℕ} 0 1 = cc in omega arith
-outcome_let_in Shutdown sort cause e = let z : ◌≡◌ {A = ℕ} 0 1 = cc in omega arith
+outcome_let_in Normal sort cause e = grind arith
+outcome_let_in Shutdown sort cause e = cc
 
-judge_by_only : (s : State) (r : Received) (o : Option Cause) (cause : Cause) → verdict_by s r o ≡ Discarded cause → OnlyLog s (judged_by s r o)
+judge_by_only : (s : State) (r : Parts) (o : Option Cause) (cause : Cause) → verdict_by s r o ≡ Discarded cause → OnlyLog s (judged_by s r o)
 judge_by_only s r (Some why) cause e = note_only s why
 judge_by_only s r None cause e = absurd (outcome_let_in (admitted (sort_of r.fields.kind) s r).core.phase (sort_of r.fields.kind) cause e)
 
-read_only : (s : State) (x : Result Received Refusal) (cause : Cause) → and_then x (λ r. Ok (verdict s r)) ≡ Ok (Discarded cause)
+read_only : (s : State) (x : Result Parts Refusal) (cause : Cause) → and_then x (λ r. Ok (verdict s r)) ≡ Ok (Discarded cause)
     → OnlyLog s (end_after s (and_then x (λ r. Ok (judged s r))))
 unfolding verdict judged
 read_only s (Ok r) cause e = judge_by_only s r (cause_of s.core r) cause (cc)
-read_only s (Err f) cause e = absurd (let z : ◌≡◌ {A = ℕ} 0 1 = cc in omega arith)
+read_only s (Err f) cause e = absurd (cc)
 
 pub discarded_logs : DiscardedLogs
 discarded_logs s frame cause h = read_only s (read_made frame) cause h
+
+-- what a new end says of every end, and what receiving says
+pub ruleset of_every_end = (held_unchanged, loads_one, refused_unchanged, update_changes_one, credit_figures)
+
+pub ruleset of_receiving = (discarded_logs, legal_frees, legal_by_number)

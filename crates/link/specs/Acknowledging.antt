@@ -1,10 +1,9 @@
 -- Acknowledgements and credit from the peer.
-use Rattle.std.specs.Prelude.{ℕ, ◌+◌, ◌-◌, min, false, cond, drop, Some, None, Option, ◌==◌, nat_lt}
+use Rattle.std.specs.Prelude.{ℕ, ◌+◌, ◌-◌, min, false, cond, drop, Some, None, Option, option_map, unwrap_or, ◌==◌, nat_lt}
 use Rattle.std.specs.List.{slice_get}
 use Rattle.frame.specs.declared.channel.Channel.{Channel}
 use Rattle.numbers.specs.Round.{freed_at_once}
 use Rattle.link.specs.declared.event.Event.TheVariants.{RseqOutOfRangeError, CreditOverflow}
-use Rattle.link.specs.declared.micropacket.Micropacket.{Micropacket}
 use Rattle.link.specs.declared.record.ChannelRecord.{ChannelRecord}
 use Rattle.link.specs.declared.record.Core.{Core}
 use Rattle.link.specs.Log.{logged}
@@ -13,13 +12,9 @@ use Rattle.link.specs.Records.{most_credit, record_of, with_record}
 use Rattle.link.specs.Repeating.{repeated, shut_down}
 use Rattle.link.specs.States.{State, with_core, with_output}
 
-abbrev pub tseq_or_0 : Option Micropacket → ℕ
-tseq_or_0 None = 0
-tseq_or_0 (Some m) = m.tseq
-
 -- the TSEQ of the oldest micropacket held; where none is, it does not matter
 abbrev pub oldest_of : State → ℕ
-oldest_of s = tseq_or_0 (slice_get s.output 0)
+oldest_of s = unwrap_or (option_map (λ m. m.tseq) (slice_get s.output 0)) 0
 
 -- how many an acknowledgement frees, of those still held and ever sent; none where it is illegal
 unfoldable pub freed_by : State → ℕ → Option ℕ
@@ -28,21 +23,7 @@ freed_by s rseq = freed_at_once numbers s.core.taken (oldest_of s) s.core.sent r
 -- a new acknowledgement, of so many: a sending place before the oldest held moves up to that, and repeats are
 -- counted from here
 abbrev pub acked_core : Core → ℕ → ℕ → Core
-acked_core c count rseq =
-    record {
-      phase = c.phase;
-      limit = c.limit;
-      repeats = 0;
-      place = c.place - count;
-      sent = c.sent - count;
-      next = c.next;
-      accepted = c.accepted;
-      taken = Some rseq;
-      named = c.named;
-      tseq_logged = c.tseq_logged;
-      channels = c.channels;
-      counters = c.counters;
-    }
+acked_core c count rseq = record c { repeats = 0; place = c.place - count; sent = c.sent - count; taken = Some rseq }
 
 -- the oldest leave the output buffer, by a new acknowledgement if there are any
 unfoldable pub freed_front : State → ℕ → ℕ → State
@@ -58,15 +39,7 @@ unfoldable pub acknowledged : State → ℕ → State
 acknowledged s rseq = cond (rseq == no_number) s (acknowledged_by s rseq (freed_by s rseq))
 
 abbrev pub gained : ChannelRecord → ℕ → ChannelRecord
-gained r cr =
-    record {
-      credit = min (r.credit + cr) most_credit;
-      waiting = r.waiting;
-      slips = r.slips;
-      left = r.left;
-      check_out = r.check_out;
-      check_in = r.check_in;
-    }
+gained r cr = record r { credit = min (r.credit + cr) most_credit }
 
 -- credit is read: what would pass the most there can be is not taken, is logged and shuts down
 unfoldable pub credited : State → Channel → ℕ → State
@@ -77,18 +50,4 @@ credited s channel cr =
 
 -- a sequenced micropacket is accepted
 abbrev pub accepted_core : Core → ℕ → Core
-accepted_core c tseq =
-    record {
-      phase = c.phase;
-      limit = c.limit;
-      repeats = c.repeats;
-      place = c.place;
-      sent = c.sent;
-      next = c.next;
-      accepted = Some tseq;
-      taken = c.taken;
-      named = c.named;
-      tseq_logged = false;
-      channels = c.channels;
-      counters = c.counters;
-    }
+accepted_core c tseq = record c { accepted = Some tseq; tseq_logged = false }

@@ -1,6 +1,7 @@
 -- The calls of an end, each with its arguments: what it refuses, and what the end is after it.
-use Rattle.std.specs.Prelude.{ℕ, List, Some, None, Ok, Err, Option, Result}
+use Rattle.std.specs.Prelude.{ℕ, List, Option}
 use Rattle.std.specs.List.{slice_get}
+use Rattle.std.specs.Result.{result_err}
 use Rattle.frame.specs.declared.channel.Channel.{Channel}
 use Rattle.frame.specs.declared.refusal.Refusal.{Refusal}
 use Rattle.frame.specs.Codec.{frame_refusal}
@@ -43,23 +44,19 @@ step (takes channel size) s = take_after s channel (take_found s channel size)
 step (returns channel) s = return_after s channel (return_refusal s channel)
 step reads_event s = after_event s
 
-abbrev pub refusal_in : {X : Type 0} → Result X Refusal → Option Refusal
-refusal_in (Ok x) = None
-refusal_in (Err e) = Some e
-
 -- why a call is refused, if it is
 abbrev pub refusal_of : Call → State → Option Refusal
 refusal_of (opens channel destination source ether_type total first) s =
-    refusal_in (open_found s channel destination source ether_type total first)
-refusal_of (adds channel bytes) s = refusal_in (add_found s channel bytes)
-refusal_of (cuts channel) s = refusal_in (cut_found s channel)
-refusal_of (admins channel bytes) s = refusal_in (admin_found s channel bytes)
+    result_err (open_found s channel destination source ether_type total first)
+refusal_of (adds channel bytes) s = result_err (add_found s channel bytes)
+refusal_of (cuts channel) s = result_err (cut_found s channel)
+refusal_of (admins channel bytes) s = result_err (admin_found s channel bytes)
 refusal_of (sends size) s = frame_refusal size
-refusal_of (receives frame) s = refusal_in (receive_found s frame)
-refusal_of times_out s = refusal_in (timeout_found s)
-refusal_of (takes channel size) s = refusal_in (take_found s channel size)
+refusal_of (receives frame) s = result_err (receive_found s frame)
+refusal_of times_out s = result_err (timeout_found s)
+refusal_of (takes channel size) s = result_err (take_found s channel size)
 refusal_of (returns channel) s = return_refusal s channel
-refusal_of reads_event s = refusal_in (or_nothing (slice_get s.events 0))
+refusal_of reads_event s = result_err (or_nothing (slice_get s.events 0))
 
 -- the calls that load what they are given
 abbrev pub Loads : Call → Type 0

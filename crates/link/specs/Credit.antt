@@ -36,32 +36,10 @@ abbrev pub told : ChannelRecord → ℕ
 told r = min r.waiting 63
 
 abbrev pub told_off : ChannelRecord → ChannelRecord
-told_off r =
-    record {
-      credit = r.credit;
-      waiting = r.waiting - told r;
-      slips = r.slips;
-      left = r.left;
-      check_out = r.check_out;
-      check_in = r.check_in;
-    }
+told_off r = record r { waiting = r.waiting - told r }
 
 abbrev pub with_named : Core → Channel → Core
-with_named c channel =
-    record {
-      phase = c.phase;
-      limit = c.limit;
-      repeats = c.repeats;
-      place = c.place;
-      sent = c.sent;
-      next = c.next;
-      accepted = c.accepted;
-      taken = c.taken;
-      named = channel;
-      tseq_logged = c.tseq_logged;
-      channels = c.channels;
-      counters = c.counters;
-    }
+with_named c channel = record c { named = channel }
 
 -- VCR and CR of a load: both 0 where no credit waits
 abbrev pub update_at : Core → Option Channel → Channel × ℕ

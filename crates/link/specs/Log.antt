@@ -1,5 +1,5 @@
 -- Counting and keeping events.
-use Rattle.std.specs.Prelude.{ℕ, ◌+◌, min, cond, List, [], ◌∷◌, ◌++◌, length, drop, Some, None, Ok, Err, Option, Result, nat_lt, slice_index, slice_set}
+use Rattle.std.specs.Prelude.{ℕ, ◌+◌, min, cond, List, [], ◌∷◌, ◌++◌, length, drop, Option, Result, ok_or, nat_lt, slice_index, slice_set}
 use Rattle.frame.specs.declared.refusal.Refusal.{Refusal}
 use Rattle.frame.specs.declared.refusal.Refusal.TheVariants.{NothingHeld}
 use Rattle.link.specs.declared.event.Event.{Event}
@@ -13,18 +13,7 @@ counter_of c event = slice_index c.counters (event_place event)
 -- one more of an event; a counter stops at the largest number of 32 bits
 abbrev pub counted : Core → Event → Core
 counted c event =
-    record {
-      phase = c.phase;
-      limit = c.limit;
-      repeats = c.repeats;
-      place = c.place;
-      sent = c.sent;
-      next = c.next;
-      accepted = c.accepted;
-      taken = c.taken;
-      named = c.named;
-      tseq_logged = c.tseq_logged;
-      channels = c.channels;
+    record c {
       counters = slice_set c.counters (event_place event) (min (counter_of c event + 1) 4294967295);
     }
 
@@ -38,8 +27,7 @@ logged s event = with_events (with_core s (counted s.core event)) (kept s.events
 
 -- reading the oldest event, which frees its place
 abbrev pub or_nothing : {X : Type 0} → Option X → Result X Refusal
-or_nothing None = Err NothingHeld
-or_nothing (Some x) = Ok x
+or_nothing found = ok_or found NothingHeld
 
 abbrev pub after_event : State → State
 after_event s = with_events s (drop 1 s.events)

@@ -1,5 +1,5 @@
 -- The numbers of this edition: how many there are, and the one that stands for none.
-use Rattle.std.specs.Prelude.{ℕ, ◌-◌, min, Some, None, Option}
+use Rattle.std.specs.Prelude.{ℕ, ◌-◌, min, Option, unwrap_or}
 
 -- TSEQ counts from 0 to one below this, and then from 0 again; the window is narrower
 abbrev pub numbers : ℕ
@@ -15,5 +15,4 @@ no_number = numbers
 
 -- a number or none, as a frame carries it
 abbrev pub carried : Option ℕ → ℕ
-carried None = no_number
-carried (Some n) = n
+carried number = unwrap_or number no_number

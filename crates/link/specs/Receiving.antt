@@ -1,11 +1,10 @@
 -- Receiving: what becomes of a frame that is handed in.
 use Rattle.std.specs.Prelude.{ℕ, ◌-◌, Bool, true, cond, List, [], ◌∷◌, ◌++◌, length, Some, None, Ok, Option, Result, ◌==◌, nat_lt, slice_set}
 use Rattle.frame.specs.declared.channel.Channel.{Channel}
+use Rattle.frame.specs.declared.parts.Parts.{Parts}
 use Rattle.frame.specs.declared.refusal.Refusal.{Refusal}
-use Rattle.frame.specs.Checks.{syndrome_of}
-use Rattle.frame.specs.Codec.{or_else, frame_refusal}
-use Rattle.frame.specs.Layout.{fields_of, data_of}
 use Rattle.frame.specs.Naming.{channel_number}
+use Rattle.frame.specs.Parts.{taken_apart}
 use Rattle.numbers.specs.Round.{due}
 use Rattle.link.specs.declared.answer.Answer.{Answer}
 use Rattle.link.specs.declared.answer.Answer.TheVariants.{Accepted, Null, Shut, Discarded}
@@ -13,10 +12,9 @@ use Rattle.link.specs.declared.answer.Answer.TheVariants as answers
 use Rattle.link.specs.declared.answer.Cause.{Cause}
 use Rattle.link.specs.declared.answer.Cause.TheVariants as causes
 use Rattle.link.specs.declared.event.Event.TheVariants.{LcrcError, TseqError, EcrcError, BufferOverflow}
-use Rattle.link.specs.declared.micropacket.Held.{Held}
+use Rattle.link.specs.declared.micropacket.Cargo.{Cargo}
 use Rattle.link.specs.declared.phase.Phase.{Phase}
 use Rattle.link.specs.declared.phase.Phase.TheVariants.{Normal, Shutdown}
-use Rattle.link.specs.declared.received.Received.{Received}
 use Rattle.link.specs.declared.record.ChannelRecord.{ChannelRecord}
 use Rattle.link.specs.declared.record.Core.{Core}
 use Rattle.link.specs.declared.sort.Sort.{Sort}
@@ -31,11 +29,8 @@ use Rattle.link.specs.Repeating.{shut_down}
 use Rattle.link.specs.States.{State, with_core, with_held, held_on, capacity_of}
 
 -- a frame taken apart; any length but 40 is refused
-abbrev pub read_of : List ℕ → Received
-read_of frame = record { fields = fields_of frame; content = data_of frame; syndrome = syndrome_of frame }
-
-unfoldable pub read_made : List ℕ → Result Received Refusal
-read_made frame = or_else (frame_refusal (length frame)) (read_of frame)
+unfoldable pub read_made : List ℕ → Result Parts Refusal
+read_made frame = taken_apart frame
 
 -- whether a TSEQ is right: a sequenced micropacket has the number due after the last accepted, any other has none
 unfoldable pub in_turn : Core → Sort → ℕ → Bool
@@ -46,11 +41,11 @@ in_turn c Afresh tseq = tseq == due numbers c.accepted
 in_turn c Onward tseq = tseq == due numbers c.accepted
 
 -- the end-to-end check that a received micropacket should have
-unfoldable pub check_due : Core → Received → ℕ
+unfoldable pub check_due : Core → Parts → ℕ
 check_due c r = check_after r.fields.kind (record_of c r.fields.vc).check_in r.content
 
 -- whether the one that it has is right; with ERROR it is not looked at
-unfoldable pub end_right : Core → Sort → Received → Bool
+unfoldable pub end_right : Core → Sort → Parts → Bool
 end_right c Idle r = true
 end_right c Control r = true
 end_right c Credit r = true
@@ -58,7 +53,7 @@ end_right c Afresh r = cond r.fields.error true (r.fields.ecrc == check_due c r)
 end_right c Onward r = cond r.fields.error true (r.fields.ecrc == check_due c r)
 
 -- why a frame is discarded: the first of these
-abbrev pub cause_in : Phase → Core → Received → Option Cause
+abbrev pub cause_in : Phase → Core → Parts → Option Cause
 cause_in Shutdown c r = Some causes.State
 cause_in Normal c r =
     cond (r.syndrome == 0x06A9) (Some causes.Stomped)
@@ -68,26 +63,12 @@ cause_in Normal c r =
     (Some causes.Tseq))
     (Some causes.Lcrc))
 
-unfoldable pub cause_of : Core → Received → Option Cause
+unfoldable pub cause_of : Core → Parts → Option Cause
 cause_of c r = cause_in c.phase c r
 
 -- a wrong TSEQ was logged
 abbrev pub tseq_marked : Core → Core
-tseq_marked c =
-    record {
-      phase = c.phase;
-      limit = c.limit;
-      repeats = c.repeats;
-      place = c.place;
-      sent = c.sent;
-      next = c.next;
-      accepted = c.accepted;
-      taken = c.taken;
-      named = c.named;
-      tseq_logged = true;
-      channels = c.channels;
-      counters = c.counters;
-    }
+tseq_marked c = record c { tseq_logged = true }
 
 -- a discarded frame changes the log and nothing else; a wrong TSEQ is logged if it is the first or a sequenced
 -- micropacket was accepted since the last one logged
@@ -104,26 +85,18 @@ has_place s channel = nat_lt (record_of s.core channel).slips (capacity_of s cha
 
 -- the running check of what is accepted moves on
 abbrev pub moved : ChannelRecord → ℕ → ChannelRecord
-moved r check =
-    record {
-      credit = r.credit;
-      waiting = r.waiting;
-      slips = r.slips;
-      left = r.left;
-      check_out = r.check_out;
-      check_in = check;
-    }
+moved r check = record r { check_in = check }
 
--- a micropacket as its channel's buffer holds it
-abbrev pub held_of : Received → Held
-held_of r =
+-- what a received micropacket carries, as its channel's buffer holds it
+abbrev pub cargo_of : Parts → Cargo
+cargo_of r =
     record { kind = r.fields.kind; tail = r.fields.tail; error = r.fields.error; content = r.content }
 
 -- it enters its channel's buffer, and the running check moves by its data
-unfoldable pub entered : State → Received → State
+unfoldable pub entered : State → Parts → State
 entered s r =
     with_core
-    (with_held s (slice_set s.held (channel_number r.fields.vc) (held_on s r.fields.vc ++ held_of r ∷ [])))
+    (with_held s (slice_set s.held (channel_number r.fields.vc) (held_on s r.fields.vc ++ cargo_of r ∷ [])))
     (with_record s.core r.fields.vc (moved (record_of s.core r.fields.vc) (check_due s.core r)))
 
 -- its channel's buffer is full
@@ -131,25 +104,25 @@ unfoldable pub overflowed : State → Channel → State
 overflowed s channel = shut_down (logged s (BufferOverflow channel))
 
 -- credit is read unless the end has shut down
-abbrev pub credited_in : Phase → State → Received → State
+abbrev pub credited_in : Phase → State → Parts → State
 credited_in Normal s r = credited s r.fields.vcr r.fields.cr
 credited_in Shutdown s r = s
 
-abbrev pub credit_read : State → Received → State
+abbrev pub credit_read : State → Parts → State
 credit_read s r = credited_in s.core.phase s r
 
 -- a sequenced micropacket is accepted; then its RSEQ is read, and then its credit
-unfoldable pub sequenced : State → Received → State
+unfoldable pub sequenced : State → Parts → State
 sequenced s r =
     credit_read (acknowledged (with_core s (accepted_core s.core r.fields.tseq)) r.fields.rseq) r
 
 -- one for a channel enters first, or overflows
-unfoldable pub carried_in : State → Received → State
+unfoldable pub carried_in : State → Parts → State
 carried_in s r =
     cond (has_place s r.fields.vc) (sequenced (entered s r) r) (overflowed s r.fields.vc)
 
 -- what a frame does that is not discarded; control ends there
-unfoldable pub admitted : Sort → State → Received → State
+unfoldable pub admitted : Sort → State → Parts → State
 admitted Idle s r = acknowledged s r.fields.rseq
 admitted Control s r = s
 admitted Credit s r = sequenced s r
@@ -169,19 +142,19 @@ outcome Normal sort = answer_for sort
 outcome Shutdown sort = Shut
 
 -- the end after a frame that is discarded for a cause, or for none
-abbrev pub judged_by : State → Received → Option Cause → State
+abbrev pub judged_by : State → Parts → Option Cause → State
 judged_by s r (Some cause) = noted s cause
 judged_by s r None = admitted (sort_of r.fields.kind) s r
 
-unfoldable pub judged : State → Received → State
+unfoldable pub judged : State → Parts → State
 judged s r = judged_by s r (cause_of s.core r)
 
 -- and the answer
-abbrev pub verdict_by : State → Received → Option Cause → Answer
+abbrev pub verdict_by : State → Parts → Option Cause → Answer
 verdict_by s r (Some cause) = Discarded cause
 verdict_by s r None = outcome (admitted (sort_of r.fields.kind) s r).core.phase (sort_of r.fields.kind)
 
-unfoldable pub verdict : State → Received → Answer
+unfoldable pub verdict : State → Parts → Answer
 verdict s r = verdict_by s r (cause_of s.core r)
 
 -- what is received

@@ -57,21 +57,7 @@ new_core limit capacities =
 
 -- the numbers with the records of the channels changed
 abbrev pub with_channels : Core → List ChannelRecord → Core
-with_channels c channels =
-    record {
-      phase = c.phase;
-      limit = c.limit;
-      repeats = c.repeats;
-      place = c.place;
-      sent = c.sent;
-      next = c.next;
-      accepted = c.accepted;
-      taken = c.taken;
-      named = c.named;
-      tseq_logged = c.tseq_logged;
-      channels = channels;
-      counters = c.counters;
-    }
+with_channels c channels = record c { channels = channels }
 
 -- the record of one channel is another, and no other is
 abbrev pub with_record : Core → Channel → ChannelRecord → Core
@@ -79,24 +65,12 @@ with_record c channel r = with_channels c (slice_set c.channels (channel_number 
 
 -- one more slip is out
 abbrev pub slip_out : ChannelRecord → ChannelRecord
-slip_out r =
-    record {
-      credit = r.credit;
-      waiting = r.waiting;
-      slips = min (r.slips + 1) 18446744073709551615;
-      left = r.left;
-      check_out = r.check_out;
-      check_in = r.check_in;
-    }
+slip_out r = record r { slips = min (r.slips + 1) 18446744073709551615 }
 
 -- a slip is back, and one more credit waits, up to the capacity
 abbrev pub slip_back : ChannelRecord → ℕ → ChannelRecord
 slip_back r capacity =
-    record {
-      credit = r.credit;
+    record r {
       waiting = cond (nat_lt r.waiting capacity) (r.waiting + 1) r.waiting;
       slips = r.slips - 1;
-      left = r.left;
-      check_out = r.check_out;
-      check_in = r.check_in;
     }

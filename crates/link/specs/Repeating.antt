@@ -15,65 +15,26 @@ use Rattle.link.specs.States.{State, with_core}
 
 -- a record without its open Message
 abbrev pub closed : ChannelRecord → ChannelRecord
-closed r =
-    record {
-      credit = r.credit;
-      waiting = r.waiting;
-      slips = r.slips;
-      left = 0;
-      check_out = r.check_out;
-      check_in = r.check_in;
-    }
+closed r = record r { left = 0 }
 
 -- repeats, credit, waiting credit and slips stay as they stood
 abbrev pub shut_core : Core → Core
 shut_core c =
-    record {
+    record c {
       phase = Shutdown;
-      limit = c.limit;
-      repeats = c.repeats;
       place = 0;
       sent = 0;
-      next = c.next;
-      accepted = c.accepted;
-      taken = c.taken;
-      named = c.named;
-      tseq_logged = c.tseq_logged;
       channels =
           closed (record_of c Vc0) ∷ closed (record_of c Vc1) ∷ closed (record_of c Vc2) ∷ closed (record_of c Vc3) ∷ [];
-      counters = c.counters;
     }
 
 -- Shutdown empties the output buffer and the channel buffers and drops open Messages
 unfoldable pub shut_down : State → State
-shut_down s =
-    record {
-      core = shut_core s.core;
-      output = [];
-      window = s.window;
-      held = [] ∷ [] ∷ [] ∷ [] ∷ [];
-      capacities = s.capacities;
-      events = s.events;
-      event_room = s.event_room;
-    }
+shut_down s = record s { core = shut_core s.core; output = []; held = [] ∷ [] ∷ [] ∷ [] ∷ [] }
 
 -- the sending place goes back to the oldest micropacket held, which is one more repeat
 abbrev pub rewound : Core → Core
-rewound c =
-    record {
-      phase = c.phase;
-      limit = c.limit;
-      repeats = min (c.repeats + 1) 255;
-      place = 0;
-      sent = c.sent;
-      next = c.next;
-      accepted = c.accepted;
-      taken = c.taken;
-      named = c.named;
-      tseq_logged = c.tseq_logged;
-      channels = c.channels;
-      counters = c.counters;
-    }
+rewound c = record c { repeats = min (c.repeats + 1) 255; place = 0 }
 
 abbrev pub begun_again : State → State
 begun_again s = with_core s (rewound s.core)

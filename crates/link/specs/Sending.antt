@@ -1,7 +1,6 @@
 -- Sending: one frame for each call, whatever there is to send.
-use Rattle.std.specs.Prelude.{ℕ, ◌+◌, min, max, Bool, true, false, cond, List, Some, None, Option}
+use Rattle.std.specs.Prelude.{ℕ, ◌+◌, min, max, Bool, false, cond, List, Some, None, Option, is_some}
 use Rattle.std.specs.List.{slice_get}
-use Rattle.frame.specs.declared.channel.Channel.{Channel}
 use Rattle.frame.specs.declared.channel.Channel.TheVariants.{Vc0}
 use Rattle.frame.specs.declared.fields.Fields.{Fields}
 use Rattle.frame.specs.declared.kind.Kind.{Kind}
@@ -9,7 +8,7 @@ use Rattle.frame.specs.declared.kind.Kind.TheVariants.{Null, CreditOnly}
 use Rattle.frame.specs.declared.refusal.Refusal.{Refusal}
 use Rattle.frame.specs.Checks.{sealed}
 use Rattle.frame.specs.Layout.{frame_of}
-use Rattle.link.specs.declared.body.Body.{Body}
+use Rattle.link.specs.declared.micropacket.Body.{Body}
 use Rattle.link.specs.declared.micropacket.Micropacket.{Micropacket}
 use Rattle.link.specs.declared.phase.Phase.{Phase}
 use Rattle.link.specs.declared.phase.Phase.TheVariants.{Normal, Shutdown}
@@ -25,42 +24,36 @@ use Rattle.link.specs.States.{State, with_core}
 -- a Null or Credit-only: channel 0, 32 zero bytes and their check begun afresh
 abbrev pub idle_body : Kind → Body
 idle_body kind =
-    record { channel = Vc0; kind = kind; tail = false; error = false; content = zeros; check = idle_check }
+    record {
+      channel = Vc0;
+      cargo = record { kind = kind; tail = false; error = false; content = zeros };
+      ecrc = idle_check;
+    }
 
 -- a Null tells no credit and has no number
 abbrev pub null_micropacket : Micropacket
 null_micropacket =
-    record {
-      channel = Vc0;
-      kind = Null;
-      tail = false;
-      error = false;
-      vcr = Vc0;
-      cr = 0;
-      tseq = no_number;
-      ecrc = idle_check;
-      content = zeros;
-    }
+    record { body = idle_body Null; vcr = Vc0; cr = 0; tseq = no_number }
 
 -- the fields of a micropacket in a frame that carries an RSEQ, before the link check
 abbrev pub fields_at : Micropacket → ℕ → Fields
 fields_at m rseq =
     record {
-      vc = m.channel;
-      kind = m.kind;
-      tail = m.tail;
-      error = m.error;
+      vc = m.body.channel;
+      kind = m.body.cargo.kind;
+      tail = m.body.cargo.tail;
+      error = m.body.cargo.error;
       vcr = m.vcr;
       cr = min m.cr 63;
       rseq = rseq;
       tseq = m.tseq;
-      ecrc = m.ecrc;
+      ecrc = m.body.ecrc;
       lcrc = 0;
     }
 
 -- its frame, with a fresh link check
 unfoldable pub frame_at : Micropacket → ℕ → List ℕ
-frame_at m rseq = sealed (frame_of (fields_at m rseq) m.content)
+frame_at m rseq = sealed (frame_of (fields_at m rseq) m.body.cargo.content)
 
 -- the caller's bytes
 abbrev pub written : Option Refusal → Micropacket → ℕ → List ℕ → List ℕ
@@ -69,31 +62,13 @@ written (Some e) m rseq bytes = bytes
 
 -- the sending place moves on, and what was ever sent with it
 abbrev pub stepped : Core → Core
-stepped c =
-    record {
-      phase = c.phase;
-      limit = c.limit;
-      repeats = c.repeats;
-      place = min (c.place + 1) 4294967295;
-      sent = max c.sent (min (c.place + 1) 4294967295);
-      next = c.next;
-      accepted = c.accepted;
-      taken = c.taken;
-      named = c.named;
-      tseq_logged = c.tseq_logged;
-      channels = c.channels;
-      counters = c.counters;
-    }
+stepped c = record c { place = min (c.place + 1) 4294967295; sent = max c.sent (min (c.place + 1) 4294967295) }
 
 abbrev pub moved_on : State → State
 moved_on s = with_core s (stepped s.core)
 
-abbrev pub some : Option Channel → Bool
-some None = false
-some (Some channel) = true
-
 abbrev pub credit_waits : Core → Bool
-credit_waits c = some (next_waiting c)
+credit_waits c = is_some (next_waiting c)
 
 -- what is given where the sending place holds nothing: where credit waits and the window has a free place, a
 -- Credit-only is loaded and given; else a Null is given
@@ -132,7 +107,7 @@ gone s = gone_in s.core.phase s
 
 -- what is told of a frame that was given
 abbrev pub sent_of : State → Sent
-sent_of s = record { kind = (given s).kind; tseq = (given s).tseq; rseq = rseq_of s.core }
+sent_of s = record { kind = (given s).body.cargo.kind; tseq = (given s).tseq; rseq = rseq_of s.core }
 
 abbrev pub send_after : Option Refusal → State → State
 send_after None s = gone s

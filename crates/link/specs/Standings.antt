@@ -5,6 +5,7 @@ use Rattle.frame.specs.declared.channel.Channel.TheVariants.{Vc0, Vc1, Vc2, Vc3}
 use Rattle.link.specs.declared.phase.Phase.{Phase}
 use Rattle.link.specs.declared.phase.Phase.TheVariants.{Normal, Shutdown}
 use Rattle.link.specs.declared.record.Core.{Core}
+use Rattle.link.specs.declared.standing.ChannelStanding.{ChannelStanding}
 use Rattle.link.specs.declared.standing.Standing.{Standing}
 use Rattle.link.specs.Numbering.{no_number, carried}
 use Rattle.link.specs.Records.{record_of}
@@ -19,8 +20,18 @@ abbrev pub rseq_of : Core → ℕ
 rseq_of c = rseq_in c.phase c
 
 -- something of each channel, in order
-abbrev pub each : (Channel → ℕ) → List ℕ
+abbrev pub each : {X : Type 0} → (Channel → X) → List X
 each f = f Vc0 ∷ f Vc1 ∷ f Vc2 ∷ f Vc3 ∷ []
+
+-- what can be seen of one channel
+abbrev pub channel_standing : State → Channel → ChannelStanding
+channel_standing s channel =
+    record {
+      credit = (record_of s.core channel).credit;
+      waiting = (record_of s.core channel).waiting;
+      held = length (held_on s channel);
+      slips = (record_of s.core channel).slips;
+    }
 
 abbrev pub standing_of : State → Standing
 standing_of s =
@@ -33,8 +44,5 @@ standing_of s =
       rseq = rseq_of s.core;
       repeats = s.core.repeats;
       limit = s.core.limit;
-      credit = each (λ channel. (record_of s.core channel).credit);
-      waiting = each (λ channel. (record_of s.core channel).waiting);
-      held = each (λ channel. length (held_on s channel));
-      slips = each (λ channel. (record_of s.core channel).slips);
+      channels = each (λ channel. channel_standing s channel);
     }

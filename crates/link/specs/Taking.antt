@@ -5,7 +5,7 @@ use Rattle.frame.specs.declared.channel.Channel.{Channel}
 use Rattle.frame.specs.declared.refusal.Refusal.{Refusal}
 use Rattle.frame.specs.declared.refusal.Refusal.TheVariants.{BadChannel, BadSize, NoSlip}
 use Rattle.frame.specs.Naming.{channel_number, channel_at}
-use Rattle.link.specs.declared.micropacket.Held.{Held}
+use Rattle.link.specs.declared.micropacket.Cargo.{Cargo}
 use Rattle.link.specs.declared.slip.Slip.{Slip}
 use Rattle.link.specs.declared.slip.Taken.{Taken}
 use Rattle.link.specs.Log.{or_nothing}
@@ -14,7 +14,7 @@ use Rattle.link.specs.Records.{record_of, with_record, slip_out, slip_back}
 use Rattle.link.specs.States.{State, with_core, with_held, held_on, capacity_of}
 
 -- what a take finds, or the first refusal that applies
-abbrev pub take_found : State → ℕ → ℕ → Result Held Refusal
+abbrev pub take_found : State → ℕ → ℕ → Result Cargo Refusal
 take_found s channel size =
     cond (nat_lt channel 4)
     (if_normal s.core.phase
@@ -24,7 +24,7 @@ take_found s channel size =
     (Err BadChannel)
 
 -- the answer: TYPE, TAIL, ERROR and a slip of the channel
-abbrev pub taken_of : ℕ → Result Held Refusal → Result Taken Refusal
+abbrev pub taken_of : ℕ → Result Cargo Refusal → Result Taken Refusal
 taken_of channel (Ok h) =
     Ok (record { kind = h.kind; tail = h.tail; error = h.error; slip = record { channel = channel_at channel } })
 taken_of channel (Err e) = Err e
@@ -35,12 +35,12 @@ taken_from s channel =
     with_core (with_held s (slice_set s.held (channel_number channel) (drop 1 (held_on s channel))))
     (with_record s.core channel (slip_out (record_of s.core channel)))
 
-abbrev pub take_after : State → ℕ → Result Held Refusal → State
+abbrev pub take_after : State → ℕ → Result Cargo Refusal → State
 take_after s channel (Ok h) = taken_from s (channel_at channel)
 take_after s channel (Err e) = s
 
 -- the caller's bytes
-abbrev pub take_bytes : List ℕ → Result Held Refusal → List ℕ
+abbrev pub take_bytes : List ℕ → Result Cargo Refusal → List ℕ
 take_bytes bytes (Ok h) = h.content
 take_bytes bytes (Err e) = bytes
 

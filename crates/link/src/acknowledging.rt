@@ -1,24 +1,13 @@
 // Acknowledgements and credit from the peer.
-ghost use Rattle.std.specs.Prelude.{◌≡◌, Some, None};
+ghost use Rattle.std.specs.Prelude.{◌≡◌, Some};
 ghost use Rattle.link.specs.Acknowledging.{oldest_of, freed_by, acked_core, freed_front, acknowledged, gained, credited, accepted_core};
-ghost use Rattle.link.specs.States.{state_of};
 
-use crate::channels::{MOST_CREDIT, index};
+use crate::channels::MOST_CREDIT;
 use crate::end::End;
 use crate::event::Event;
-use crate::numbering::NUMBERS;
+use crate::numbering::{NUMBERS, ROUND};
 use crate::record::{ChannelRecord, Core};
 use frame::Channel;
-
-// A number or none, for the arithmetic of numbers.
-pub(crate) fn widened(number: Option<u8>) -> Option<u32>
-    ensures { result ≡ number }
-{
-    match number {
-        Some(n) => Some(n as u32),
-        None => None,
-    }
-}
 
 impl ChannelRecord {
     // More credit came.
@@ -53,38 +42,39 @@ impl Core {
 impl End<'_> {
     // The TSEQ of the oldest micropacket held; where none is, it does not matter.
     fn oldest(&self) -> u8
-        ensures { result ≡ oldest_of (state_of self.now) }
+        ensures { result ≡ oldest_of self.now }
     {
-        match self.output.get(0) {
-            Some(micropacket) => micropacket.tseq,
-            None => 0,
-        }
+        self.output.get(0).map_or(0, |micropacket| micropacket.tseq)
     }
 
     // How many an acknowledgement frees: none where it is the last one taken, and else all up to the one that has this
     // number, of those still held and ever sent. Any other is illegal.
+    #[tactic(auto, unfolding(crate::specs::Acknowledging::freed_by))]
     fn freed(&self, rseq: u8) -> Option<u32>
-        ensures { result ≡ freed_by (state_of self.now) rseq }
+        ensures { result ≡ freed_by self.now rseq }
     {
-        let taken = widened(self.core.taken);
-        let oldest = self.oldest() as u32;
-        numbers::freed(rseq as u32, taken, oldest, self.core.sent, NUMBERS as u32)
+        let taken = self.core.taken.map(u32::from);
+        let oldest = u32::from(self.oldest());
+        ROUND.freed(u32::from(rseq), taken, oldest, self.core.sent)
     }
 
     // Frees the `count` oldest of the output buffer, by a new acknowledgement if there are any.
+    #[tactic(auto, unfolding(crate::specs::Acknowledging::freed_front))]
     fn free(&mut self, count: u32, rseq: u8)
-        ensures { state_of self.new ≡ freed_front (state_of self.old) count rseq }
+        ensures { self.new ≡ freed_front self.old count rseq }
     {
         if count == 0 {
             return;
         }
+        // A cast, since no From goes from a u32 to a usize.
         self.output.drop_front(count as usize);
         self.core.acknowledge(count, rseq);
     }
 
     // Reads an RSEQ: none is ignored, a legal one frees, and any other is logged and starts a repeat.
+    #[tactic(auto, unfolding(crate::specs::Acknowledging::acknowledged))]
     pub(crate) fn read_rseq(&mut self, rseq: u8)
-        ensures { state_of self.new ≡ acknowledged (state_of self.old) rseq }
+        ensures { self.new ≡ acknowledged self.old rseq }
     {
         if rseq == NUMBERS {
             return;
@@ -99,15 +89,15 @@ impl End<'_> {
     }
 
     // Reads the credit that the peer tells. What would pass the most there can be is not taken, and shuts down.
+    #[tactic(auto, unfolding(crate::specs::Acknowledging::credited))]
     pub(crate) fn read_credit(&mut self, channel: Channel, cr: u8)
-        ensures { state_of self.new ≡ credited (state_of self.old) channel cr }
+        ensures { self.new ≡ credited self.old channel cr }
     {
-        let credit = self.core.record(channel).credit;
-        if credit as u32 + cr as u32 > MOST_CREDIT as u32 {
+        if self.core.record(channel).credit > MOST_CREDIT - cr {
             self.log(Event::CreditOverflow(channel));
             self.shut_down();
         } else {
-            self.core.channels[index(channel)].gain(cr);
+            self.core.channels[usize::from(channel)].gain(cr);
         }
     }
 }

@@ -1,5 +1,5 @@
 // What became of a frame that an end was handed.
-#[derive(Clone, Copy, PartialEq, Eq)]
+#[derive(Clone, Copy, PartialEq, Eq, Debug)]
 pub enum Answer {
     Accepted,
     Null,
@@ -10,7 +10,7 @@ pub enum Answer {
 }
 
 // Why a frame was discarded.
-#[derive(Clone, Copy, PartialEq, Eq)]
+#[derive(Clone, Copy, PartialEq, Eq, Debug)]
 pub enum Cause {
     State,
     Stomped,

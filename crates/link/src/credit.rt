@@ -1,15 +1,11 @@
 // Credit: what is told to the peer, and what it tells.
-ghost use Rattle.std.specs.Prelude.{◌≡◌, cond};
+ghost use Rattle.std.specs.Prelude.{◌≡◌};
 ghost use Rattle.link.specs.Credit.{channel_after, waits, next_waiting, told, told_off, update_of, updated};
 
-use crate::channels::index;
 use crate::record::{ChannelRecord, Core};
-use frame::Channel;
+use frame::{Channel, MOST_CR};
 
-// The most credit that one micropacket can tell.
-const MOST_TOLD: usize = 63;
-
-// The channels follow each other in a circle.
+// The channels follow each other in a circle: a match says that without a number.
 fn after(channel: Channel) -> Channel
     ensures { result ≡ channel_after channel }
 {
@@ -27,8 +23,9 @@ impl ChannelRecord {
         ensures value { result ≡ told self.old }
         ensures after { self.new ≡ told_off self.old }
     {
-        let cr = self.waiting.min(MOST_TOLD);
+        let cr = self.waiting.min(usize::from(MOST_CR));
         self.waiting -= cr;
+        // At most 63, so that it fits.
         cr as u8
     }
 }
@@ -47,17 +44,10 @@ impl Core {
         let first = after(self.named);
         let second = after(first);
         let third = after(second);
-        if self.waits(first) {
-            Some(first)
-        } else if self.waits(second) {
-            Some(second)
-        } else if self.waits(third) {
-            Some(third)
-        } else if self.waits(self.named) {
-            Some(self.named)
-        } else {
-            None
-        }
+        [first, second, third, self.named]
+            .iter()
+            .find(|channel| self.waits(**channel))
+            .copied()
     }
 
     // The credit update of a load, VCR and CR. Only the record of the channel that it names changes; with no credit
@@ -69,7 +59,7 @@ impl Core {
         match self.next_waiting() {
             Some(channel) => {
                 self.named = channel;
-                let cr = self.channels[index(channel)].tell();
+                let cr = self.channels[usize::from(channel)].tell();
                 (channel, cr)
             }
             None => (Channel::Vc0, 0),

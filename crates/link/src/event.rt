@@ -1,7 +1,10 @@
 use frame::Channel;
 
+// How many counters there are: one of each event, and of the last two one of each channel.
+pub(crate) const EVENTS: usize = 15;
+
 // What an end logs. The last two are of a channel.
-#[derive(Clone, Copy)]
+#[derive(Clone, Copy, PartialEq, Eq, Debug)]
 pub enum Event {
     LcrcError,
     TseqError,

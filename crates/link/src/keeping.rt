@@ -2,21 +2,20 @@
 ghost use Rattle.std.specs.Prelude.{◌≡◌, [], ◌∷◌, length};
 ghost use Rattle.link.specs.Laws.{HeldUnchanged, LoadsOne, RefusedUnchanged, UpdateChangesOne, CreditFigures};
 ghost use Rattle.link.specs.Numbering.{window_over};
+ghost use Rattle.link.specs.Outcomes.{if_normal};
 ghost use Rattle.link.specs.Records.{capacity_over, new_record, new_core, record_of};
-ghost use Rattle.link.specs.Standings.{rseq_of, standing_of};
-ghost use Rattle.link.specs.States.{new_state, state_of};
+ghost use Rattle.link.specs.Standings.{rseq_of, channel_standing, standing_of};
+ghost use Rattle.link.specs.States.{Fits, new_state};
 
 use crate::buffers::Buffers;
-use crate::channels::index;
-use crate::end::End;
-use crate::event::Event;
-use crate::micropacket::{Held, Micropacket};
+use crate::end::{Areas, End};
+use crate::event::EVENTS;
 use crate::numbering::NUMBERS;
 use crate::phase::Phase;
 use crate::record::{ChannelRecord, Core};
-use crate::standing::Standing;
+use crate::standing::{ChannelStanding, Standing};
 use crc::{Check, EndToEndCheck};
-use frame::Channel;
+use frame::{Channel, Refusal};
 use ring::Ring;
 
 impl ChannelRecord {
@@ -35,8 +34,21 @@ impl ChannelRecord {
     }
 }
 
+impl Phase {
+    // Refuses what is done only in Normal.
+    pub(crate) fn normal(self) -> Result<(), Refusal>
+        ensures { result ≡ if_normal self (Ok tt) }
+    {
+        match self {
+            Phase::Normal => Ok(()),
+            Phase::Shutdown => Err(Refusal::NotNormal),
+        }
+    }
+}
+
 impl Core {
-    // A limit of 0 stands for 2. Channel 0 comes after channel 3, so that it is the first that a credit update names.
+    // A limit of 0 stands for 2, so that every number makes an end. Channel 0 comes after channel 3, so that it is the
+    // first that a credit update names.
     fn new(limit: u8, capacities: [usize; 4]) -> Core
         ensures { result ≡ new_core limit capacities }
     {
@@ -51,21 +63,17 @@ impl Core {
             taken: None,
             named: Channel::Vc3,
             tseq_logged: false,
-            channels: [
-                ChannelRecord::new(capacities[0]),
-                ChannelRecord::new(capacities[1]),
-                ChannelRecord::new(capacities[2]),
-                ChannelRecord::new(capacities[3]),
-            ],
-            counters: [0; 15],
+            channels: capacities.map(ChannelRecord::new),
+            counters: [0; EVENTS],
         }
     }
 
-    // The record of a channel.
-    pub(crate) fn record(&self, channel: Channel) -> ChannelRecord
-        ensures { result ≡ record_of self.now channel }
+    // The record of a channel, to look at.
+    // To change one, index the array: where a call lends an element of it, no clause yet says what the array becomes.
+    pub(crate) fn record(&self, channel: Channel) -> &ChannelRecord
+        ensures { result.now ≡ record_of self.now channel }
     {
-        self.channels[index(channel)]
+        &self.channels[usize::from(channel)]
     }
 
     // The RSEQ that the end sends now: the last accepted TSEQ, or none.
@@ -73,10 +81,7 @@ impl Core {
         ensures { result ≡ rseq_of self.now }
     {
         match self.phase {
-            Phase::Normal => match self.accepted {
-                Some(number) => number,
-                None => NUMBERS,
-            },
+            Phase::Normal => self.accepted.unwrap_or(NUMBERS),
             Phase::Shutdown => NUMBERS,
         }
     }
@@ -85,46 +90,51 @@ impl Core {
 impl<'a> End<'a> {
     // An end over areas that are given up for its life. The window is narrower than there are numbers; elements past
     // it, and past the most that a channel can have, stay unused.
-    pub fn new(
-        output: &'a mut [Micropacket],
-        vc0: &'a mut [Held],
-        vc1: &'a mut [Held],
-        vc2: &'a mut [Held],
-        vc3: &'a mut [Held],
-        events: &'a mut [Event],
-        limit: u8,
-    ) -> End<'a>
-        ensures made { state_of result ≡ new_state limit (window_over (length output.old)) (capacity_over (length vc0.old) ∷ capacity_over (length vc1.old) ∷ capacity_over (length vc2.old) ∷ capacity_over (length vc3.old) ∷ []) (length events.old) }
+    #[tactic(auto, using(crate::proofs::Laws::of_every_end))]
+    pub fn new(areas: Areas<'a>, limit: u8) -> End<'a>
+        ensures made { result ≡ new_state limit (window_over (length areas.entry.output.now)) (capacity_over (length areas.entry.vc0.now) ∷ capacity_over (length areas.entry.vc1.now) ∷ capacity_over (length areas.entry.vc2.now) ∷ capacity_over (length areas.entry.vc3.now) ∷ []) (length areas.entry.events.now) }
         ensures held { HeldUnchanged }
         ensures loads { LoadsOne }
         ensures refused { RefusedUnchanged }
         ensures update { UpdateChangesOne }
         ensures figures { CreditFigures }
     {
+        let Areas {
+            output,
+            vc0,
+            vc1,
+            vc2,
+            vc3,
+            events,
+        } = areas;
         let buffers = Buffers::new(vc0, vc1, vc2, vc3);
-        let capacities = [
-            buffers.capacity(Channel::Vc0),
-            buffers.capacity(Channel::Vc1),
-            buffers.capacity(Channel::Vc2),
-            buffers.capacity(Channel::Vc3),
-        ];
         let room = events.len();
         End {
-            core: Core::new(limit, capacities),
-            output: Ring::new(output, NUMBERS as usize - 1),
+            core: Core::new(limit, buffers.capacities()),
+            output: Ring::new(output, usize::from(NUMBERS) - 1),
             buffers,
             events: Ring::new(events, room),
         }
     }
 
-    // All that can be seen of the end.
-    pub fn standing(&self) -> Standing
-        ensures { result ≡ standing_of (state_of self.now) }
+    // What can be seen of one channel.
+    fn channel_standing(&self, channel: Channel) -> ChannelStanding
+        ensures { result ≡ channel_standing self.now channel }
     {
-        let vc0 = self.core.record(Channel::Vc0);
-        let vc1 = self.core.record(Channel::Vc1);
-        let vc2 = self.core.record(Channel::Vc2);
-        let vc3 = self.core.record(Channel::Vc3);
+        let record = self.core.record(channel);
+        ChannelStanding {
+            credit: record.credit,
+            waiting: record.waiting,
+            held: self.buffers.len(channel),
+            slips: record.slips,
+        }
+    }
+
+    // All that can be seen of the end, and what is so of every end.
+    pub fn standing(&self) -> Standing
+        ensures value { result ≡ standing_of self.now }
+        ensures fits { Fits self.now }
+    {
         Standing {
             phase: self.core.phase,
             window: self.output.capacity(),
@@ -134,15 +144,7 @@ impl<'a> End<'a> {
             rseq: self.core.rseq(),
             repeats: self.core.repeats,
             limit: self.core.limit,
-            credit: [vc0.credit, vc1.credit, vc2.credit, vc3.credit],
-            waiting: [vc0.waiting, vc1.waiting, vc2.waiting, vc3.waiting],
-            held: [
-                self.buffers.len(Channel::Vc0),
-                self.buffers.len(Channel::Vc1),
-                self.buffers.len(Channel::Vc2),
-                self.buffers.len(Channel::Vc3),
-            ],
-            slips: [vc0.slips, vc1.slips, vc2.slips, vc3.slips],
+            channels: Channel::ALL.map(|channel| self.channel_standing(channel)),
         }
     }
 }

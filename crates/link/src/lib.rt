@@ -3,7 +3,6 @@
 
 mod acknowledging;
 mod answer;
-mod body;
 mod buffers;
 mod channels;
 mod checking;
@@ -18,7 +17,6 @@ mod micropacket;
 mod naming;
 mod numbering;
 mod phase;
-mod received;
 mod receiving;
 mod record;
 mod repeating;
@@ -30,14 +28,14 @@ mod standing;
 mod taking;
 
 pub use answer::{Answer, Cause};
-pub use end::End;
+pub use end::{Areas, End};
 pub use event::Event;
-pub use micropacket::{Held, Micropacket};
+pub use micropacket::{Body, Cargo, Micropacket};
 pub use phase::Phase;
 pub use record::{ChannelRecord, Core};
 pub use sent::Sent;
 pub use slip::{Slip, Taken};
-pub use standing::Standing;
+pub use standing::{ChannelStanding, Standing};
 
 #[cfg(test)]
 mod tests;

@@ -2,7 +2,6 @@
 ghost use Rattle.std.specs.Prelude.{◌≡◌};
 ghost use Rattle.std.specs.List.{slice_get};
 ghost use Rattle.link.specs.Log.{counter_of, counted, logged, or_nothing, after_event};
-ghost use Rattle.link.specs.States.{state_of};
 
 use crate::end::End;
 use crate::event::Event;
@@ -22,10 +21,10 @@ impl Core {
 impl End<'_> {
     // Counts an event and keeps it in the event area; a full one keeps no more.
     pub(crate) fn log(&mut self, event: Event)
-        ensures { state_of self.new ≡ logged (state_of self.old) event }
+        ensures { self.new ≡ logged self.old event }
     {
         self.core.count(event);
-        let _ = self.events.push_back(event);
+        self.events.push_back(event);
     }
 
     // How often an event was logged.
@@ -37,12 +36,9 @@ impl End<'_> {
 
     // Reads the oldest event that is kept, and frees its place.
     pub fn event(&mut self) -> Result<Event, Refusal>
-        ensures value { result ≡ or_nothing (slice_get (state_of self.old).events 0) }
-        ensures after { state_of self.new ≡ after_event (state_of self.old) }
+        ensures value { result ≡ or_nothing (slice_get self.old.events 0) }
+        ensures after { self.new ≡ after_event self.old }
     {
-        match self.events.pop_front() {
-            Some(event) => Ok(event),
-            None => Err(Refusal::NothingHeld),
-        }
+        self.events.pop_front().ok_or(Refusal::NothingHeld)
     }
 }

@@ -1,17 +1,14 @@
 // Loading Messages and Admins.
-ghost use Rattle.std.specs.Prelude.{◌≡◌, length};
-ghost use Rattle.frame.specs.Checks.{data_refusal};
-ghost use Rattle.frame.specs.Codec.{or_else};
-ghost use Rattle.link.specs.Messages.{ready, with_room, heading_made, open_found, add_found, cut_found, admin_channel, admin_found};
+ghost use Rattle.std.specs.Prelude.{◌≡◌};
+ghost use Rattle.link.specs.Messages.{ready, with_room, heading_made, open_asked, add_found, cut_found, admin_channel, admin_found};
 ghost use Rattle.link.specs.Outcomes.{done, end_after};
-ghost use Rattle.link.specs.States.{state_of};
 
 use crate::end::End;
-use crate::phase::Phase;
-use frame::{Channel, Kind, Refusal};
-use message::{header, longest, piece};
+use crate::micropacket::Cargo;
+use frame::{Channel, Content, DATA_SIZE, Kind, Refusal, sized};
+use message::{IN_DATA, IN_HEADER, Opening, longest, piece};
 
-// An Admin goes on channel 1 or 2.
+// An Admin goes on channel 1 or 2; any other number that is handed in is refused.
 fn admin_channel(number: u64) -> Result<Channel, Refusal>
     ensures { result ≡ admin_channel number }
 {
@@ -23,49 +20,29 @@ fn admin_channel(number: u64) -> Result<Channel, Refusal>
 }
 
 // The data of a Header whose payload is not too long for its channel.
-fn heading(
-    channel: Channel,
-    destination: &[u8],
-    source: &[u8],
-    ether_type: u16,
-    total: u64,
-    first: &[u8],
-) -> Result<[u8; 32], Refusal>
-    ensures { result ≡ heading_made channel destination.now source.now ether_type total first.now }
+#[tactic(auto, unfolding(crate::specs::Messages::heading_made))]
+fn heading(channel: Channel, opening: &Opening) -> Result<Content, Refusal>
+    ensures { result ≡ heading_made channel opening.now.destination.now opening.now.source.now opening.now.ether_type opening.now.total opening.now.first.now }
 {
-    if total > longest(channel) {
+    if opening.total > longest(channel) {
         return Err(Refusal::TooLong);
     }
-    header(destination, source, ether_type, total, first)
-}
-
-// The 32 bytes that somebody hands in.
-fn block(bytes: &[u8]) -> Result<[u8; 32], Refusal>
-    ensures { result ≡ or_else (data_refusal (length bytes.now)) bytes.now }
-{
-    if bytes.len() != 32 {
-        return Err(Refusal::BadSize);
-    }
-    let mut content = [0; 32];
-    content.copy_from_slice(bytes);
-    Ok(content)
+    opening.header()
 }
 
 impl End<'_> {
     // Whether a call that loads may go on: its channel is one of four, and the end is Normal.
     fn ready(&self, channel: u64) -> Result<Channel, Refusal>
-        ensures { result ≡ ready (state_of self.now) channel }
+        ensures { result ≡ ready self.now channel }
     {
-        let channel = Channel::from_number(channel)?;
-        match self.core.phase {
-            Phase::Normal => Ok(channel),
-            Phase::Shutdown => Err(Refusal::NotNormal),
-        }
+        let channel = Channel::try_from(channel)?;
+        self.core.phase.normal()?;
+        Ok(channel)
     }
 
     // Whether there is room for one more micropacket: first here, and then at the peer.
     fn room(&self, channel: Channel) -> Result<(), Refusal>
-        ensures { result ≡ with_room (state_of self.now) channel }
+        ensures { result ≡ with_room self.now channel }
     {
         if self.output.is_full() {
             return Err(Refusal::WindowFull);
@@ -76,34 +53,31 @@ impl End<'_> {
         Ok(())
     }
 
-    // Opens a Message of `total` payload bytes: loads its Header with the first of them.
-    pub fn open(
-        &mut self,
-        channel: u64,
-        destination: &[u8],
-        source: &[u8],
-        ether_type: u16,
-        total: u64,
-        first: &[u8],
-    ) -> Result<(), Refusal>
-        ensures value { result ≡ done (open_found (state_of self.old) channel destination.now source.now ether_type total first.now) }
-        ensures after { state_of self.new ≡ end_after (state_of self.old) (open_found (state_of self.old) channel destination.now source.now ether_type total first.now) }
+    // Opens a Message: loads its Header with the first bytes of its payload.
+    pub fn open(&mut self, channel: u64, opening: &Opening) -> Result<(), Refusal>
+        ensures value { result ≡ done (open_asked self.old channel opening.now) }
+        ensures after { self.new ≡ end_after self.old (open_asked self.old channel opening.now) }
     {
         let channel = self.ready(channel)?;
         if self.core.record(channel).left > 0 {
             return Err(Refusal::MessageOpen);
         }
-        let content = heading(channel, destination, source, ether_type, total, first)?;
+        let content = heading(channel, opening)?;
         self.room(channel)?;
-        let body = self.body(channel, Kind::Header, total <= 8, false, content);
-        self.put(body, total.saturating_sub(8));
+        let cargo = Cargo {
+            kind: Kind::Header,
+            tail: opening.total <= IN_HEADER,
+            error: false,
+            content,
+        };
+        self.put(channel, cargo, opening.total.saturating_sub(IN_HEADER));
         Ok(())
     }
 
     // Loads the next payload bytes of the open Message.
     pub fn add(&mut self, channel: u64, bytes: &[u8]) -> Result<(), Refusal>
-        ensures value { result ≡ done (add_found (state_of self.old) channel bytes.now) }
-        ensures after { state_of self.new ≡ end_after (state_of self.old) (add_found (state_of self.old) channel bytes.now) }
+        ensures value { result ≡ done (add_found self.old channel bytes.now) }
+        ensures after { self.new ≡ end_after self.old (add_found self.old channel bytes.now) }
     {
         let channel = self.ready(channel)?;
         let left = self.core.record(channel).left;
@@ -112,43 +86,55 @@ impl End<'_> {
         }
         let content = piece(left, bytes)?;
         self.room(channel)?;
-        let body = self.body(channel, Kind::Data, left <= 32, false, content);
-        self.put(body, left.saturating_sub(32));
+        let cargo = Cargo {
+            kind: Kind::Data,
+            tail: left <= IN_DATA,
+            error: false,
+            content,
+        };
+        self.put(channel, cargo, left.saturating_sub(IN_DATA));
         Ok(())
     }
 
     // Ends the open Message: what was loaded of it is marked as wrong by an empty last Data.
     pub fn cut(&mut self, channel: u64) -> Result<(), Refusal>
-        ensures value { result ≡ done (cut_found (state_of self.old) channel) }
-        ensures after { state_of self.new ≡ end_after (state_of self.old) (cut_found (state_of self.old) channel) }
+        ensures value { result ≡ done (cut_found self.old channel) }
+        ensures after { self.new ≡ end_after self.old (cut_found self.old channel) }
     {
         let channel = self.ready(channel)?;
         if self.core.record(channel).left == 0 {
             return Err(Refusal::NoMessage);
         }
         self.room(channel)?;
-        let body = self.body(channel, Kind::Data, true, true, [0; 32]);
-        self.put(body, 0);
+        let cargo = Cargo {
+            kind: Kind::Data,
+            tail: true,
+            error: true,
+            content: [0; DATA_SIZE],
+        };
+        self.put(channel, cargo, 0);
         Ok(())
     }
 
     // Loads an Admin of 32 bytes.
     pub fn admin(&mut self, channel: u64, bytes: &[u8]) -> Result<(), Refusal>
-        ensures value { result ≡ done (admin_found (state_of self.old) channel bytes.now) }
-        ensures after { state_of self.new ≡ end_after (state_of self.old) (admin_found (state_of self.old) channel bytes.now) }
+        ensures value { result ≡ done (admin_found self.old channel bytes.now) }
+        ensures after { self.new ≡ end_after self.old (admin_found self.old channel bytes.now) }
     {
         let channel = admin_channel(channel)?;
-        match self.core.phase {
-            Phase::Normal => {}
-            Phase::Shutdown => return Err(Refusal::NotNormal),
-        }
+        self.core.phase.normal()?;
         if self.core.record(channel).left > 0 {
             return Err(Refusal::MessageOpen);
         }
-        let content = block(bytes)?;
+        let content = *sized::<DATA_SIZE>(bytes)?;
         self.room(channel)?;
-        let body = self.body(channel, Kind::Admin, true, false, content);
-        self.put(body, 0);
+        let cargo = Cargo {
+            kind: Kind::Admin,
+            tail: true,
+            error: false,
+            content,
+        };
+        self.put(channel, cargo, 0);
         Ok(())
     }
 }

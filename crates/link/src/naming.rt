@@ -1,12 +1,12 @@
-// The names of phases, events, answers and causes.
-ghost use Rattle.std.specs.Prelude.{◌≡◌, ◌<◌};
+// The names of phases, events, answers and causes: as texts, which are always there, and as what is printed.
+ghost use Rattle.std.specs.Prelude.{◌≡◌, ◌<◌, Some};
 ghost use Rattle.link.specs.Naming.{phase_name, event_name, event_channel, event_place, answer_name, cause_name};
 
 use crate::answer::{Answer, Cause};
-use crate::channels::index;
 use crate::event::Event;
 use crate::phase::Phase;
 use frame::Channel;
+use std::fmt;
 
 impl Phase {
     pub fn name(self) -> &'static str
@@ -16,6 +16,14 @@ impl Phase {
             Phase::Normal => "Normal",
             Phase::Shutdown => "Shutdown",
         }
+    }
+}
+
+impl fmt::Display for Phase {
+    ghost output = { λ x. Some (phase_name x) };
+
+    fn fmt<W: fmt::Write>(&self, f: &mut fmt::Formatter<W>) -> fmt::Result {
+        f.write_str(Phase::name(*self))
     }
 }
 
@@ -33,6 +41,14 @@ impl Answer {
     }
 }
 
+impl fmt::Display for Answer {
+    ghost output = { λ x. Some (answer_name x) };
+
+    fn fmt<W: fmt::Write>(&self, f: &mut fmt::Formatter<W>) -> fmt::Result {
+        f.write_str(Answer::name(*self))
+    }
+}
+
 impl Cause {
     pub fn name(self) -> &'static str
         ensures { result.now ≡ cause_name self }
@@ -44,6 +60,14 @@ impl Cause {
             Cause::Tseq => "TSEQ",
             Cause::Ecrc => "ECRC",
         }
+    }
+}
+
+impl fmt::Display for Cause {
+    ghost output = { λ x. Some (cause_name x) };
+
+    fn fmt<W: fmt::Write>(&self, f: &mut fmt::Formatter<W>) -> fmt::Result {
+        f.write_str(Cause::name(*self))
     }
 }
 
@@ -64,18 +88,17 @@ impl Event {
         }
     }
 
-    // The channel of an event that has one.
+    // The channel of an event that has one. A match, since two of the events alone have one.
     pub fn channel(self) -> Option<Channel>
         ensures { result ≡ event_channel self }
     {
         match self {
-            Event::BufferOverflow(channel) => Some(channel),
-            Event::CreditOverflow(channel) => Some(channel),
+            Event::BufferOverflow(channel) | Event::CreditOverflow(channel) => Some(channel),
             _ => None,
         }
     }
 
-    // Where its counter stands.
+    // Where its counter stands: all counters stand in one table, since all are counted alike.
     pub(crate) fn place(self) -> usize
         ensures value { result ≡ event_place self }
         ensures bound { result < 15 }
@@ -88,8 +111,16 @@ impl Event {
             Event::RseqOutOfRangeError => 4,
             Event::RetryCount => 5,
             Event::RetryFailureError => 6,
-            Event::BufferOverflow(channel) => 7 + index(channel),
-            Event::CreditOverflow(channel) => 11 + index(channel),
+            Event::BufferOverflow(channel) => 7 + usize::from(channel),
+            Event::CreditOverflow(channel) => 11 + usize::from(channel),
         }
+    }
+}
+
+impl fmt::Display for Event {
+    ghost output = { λ x. Some (event_name x) };
+
+    fn fmt<W: fmt::Write>(&self, f: &mut fmt::Formatter<W>) -> fmt::Result {
+        f.write_str(Event::name(*self))
     }
 }

@@ -1,5 +1,5 @@
 // What an end is doing: its work, or nothing any more.
-#[derive(Clone, Copy, PartialEq, Eq)]
+#[derive(Clone, Copy, PartialEq, Eq, Debug)]
 pub enum Phase {
     Normal,
     Shutdown,

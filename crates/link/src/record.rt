@@ -1,3 +1,4 @@
+use crate::event::EVENTS;
 use crate::phase::Phase;
 use frame::Channel;
 
@@ -10,7 +11,7 @@ pub struct ChannelRecord {
     pub waiting: usize,
     // How many slips are out.
     pub slips: usize,
-    // How many payload bytes of the open Message are to come; 0 while none is open.
+    // How many payload bytes of the open Message are to come. 0 while none is open: one with none to come is closed.
     pub left: u64,
     // The running end-to-end checks of what is loaded and of what is accepted.
     pub check_out: u16,
@@ -36,5 +37,5 @@ pub struct Core {
     // Whether a wrong TSEQ was logged and no sequenced micropacket accepted since.
     pub tseq_logged: bool,
     pub channels: [ChannelRecord; 4],
-    pub counters: [u32; 15],
+    pub counters: [u32; EVENTS],
 }

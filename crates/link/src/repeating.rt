@@ -2,7 +2,6 @@
 ghost use Rattle.std.specs.Prelude.{◌≡◌};
 ghost use Rattle.link.specs.Outcomes.{end_after};
 ghost use Rattle.link.specs.Repeating.{closed, shut_core, rewound, shut_down, repeated, timeout_found, phase_found};
-ghost use Rattle.link.specs.States.{state_of};
 
 use crate::end::End;
 use crate::event::Event;
@@ -27,13 +26,7 @@ impl Core {
         self.phase = Phase::Shutdown;
         self.place = 0;
         self.sent = 0;
-        let channels = [
-            self.channels[0].closed(),
-            self.channels[1].closed(),
-            self.channels[2].closed(),
-            self.channels[3].closed(),
-        ];
-        self.channels = channels;
+        self.channels = self.channels.map(ChannelRecord::closed);
     }
 
     // The sending place goes back to the oldest micropacket held, which is one more repeat.
@@ -47,8 +40,9 @@ impl Core {
 
 impl End<'_> {
     // Shutdown empties the output buffer and the channel buffers and drops open Messages.
+    #[tactic(auto, unfolding(crate::specs::Repeating::shut_down))]
     pub(crate) fn shut_down(&mut self)
-        ensures { state_of self.new ≡ shut_down (state_of self.old) }
+        ensures { self.new ≡ shut_down self.old }
     {
         self.core.shut_down();
         self.output.clear();
@@ -57,8 +51,9 @@ impl End<'_> {
 
     // A repeat does nothing if nothing sent is unacknowledged. With as many repeats as the limit since the last new
     // acknowledgement, the end gives up; else everything held is sent again.
+    #[tactic(auto, unfolding(crate::specs::Repeating::repeated))]
     pub(crate) fn repeat(&mut self)
-        ensures { state_of self.new ≡ repeated (state_of self.old) }
+        ensures { self.new ≡ repeated self.old }
     {
         if self.core.sent == 0 {
             return;
@@ -74,13 +69,10 @@ impl End<'_> {
 
     // No acknowledgement came in time: logs that and starts a repeat. Answers the phase that the end is in then.
     pub fn timeout(&mut self) -> Result<Phase, Refusal>
-        ensures value { result ≡ phase_found (timeout_found (state_of self.old)) }
-        ensures after { state_of self.new ≡ end_after (state_of self.old) (timeout_found (state_of self.old)) }
+        ensures value { result ≡ phase_found (timeout_found self.old) }
+        ensures after { self.new ≡ end_after self.old (timeout_found self.old) }
     {
-        match self.core.phase {
-            Phase::Normal => {}
-            Phase::Shutdown => return Err(Refusal::NotNormal),
-        }
+        self.core.phase.normal()?;
         if self.core.sent == 0 {
             return Err(Refusal::NothingSent);
         }

@@ -1,6 +1,6 @@
 use frame::Kind;
 
-// What `send` tells of the frame that it gave.
+// What `send` tells of the frame that it gave, its numbers as the frame carries them.
 #[derive(Clone, Copy)]
 pub struct Sent {
     pub kind: Kind,

@@ -1,6 +1,6 @@
 use crate::phase::Phase;
 
-// All that can be seen of an end from outside. The channels stand in their order.
+// All that can be seen of an end from outside.
 #[derive(Clone, Copy)]
 pub struct Standing {
     pub phase: Phase,
@@ -13,8 +13,15 @@ pub struct Standing {
     pub rseq: u8,
     pub repeats: u8,
     pub limit: u8,
-    pub credit: [u8; 4],
-    pub waiting: [usize; 4],
-    pub held: [usize; 4],
-    pub slips: [usize; 4],
+    // The channels in their order.
+    pub channels: [ChannelStanding; 4],
+}
+
+// What can be seen of one channel.
+#[derive(Clone, Copy)]
+pub struct ChannelStanding {
+    pub credit: u8,
+    pub waiting: usize,
+    pub held: usize,
+    pub slips: usize,
 }

@@ -1,5 +1,5 @@
 -- Pieces of a payload, in a micropacket and in the buffer.
-use Rattle.std.proofs.Common.{◌≡◌, ℕ, ◌+◌, ◌-◌, ◌≤◌, min, List, ◌++◌, length, take, drop, replicate, sym, ap, ◌∙◌, ap₂, arith, length-append, length-drop, length-take}
+use Rattle.std.proofs.Common.{◌≡◌, ℕ, ◌+◌, ◌-◌, ◌≤◌, min, List, ◌++◌, length, take, drop, replicate, ◌∙◌, arith, length-append, length-drop, length-take}
 use native.Mathlib.Nat.{min_comm}
 use lib.ListN.{length-replicate}
 use lib.Seq.{take-append-add}
@@ -10,9 +10,7 @@ use Rattle.message.specs.Making.{padded}
 -- the first bytes and those that follow
 pub take_on : (xs : List ℕ) (a n : ℕ) → a ≤ length xs → take (a + n) xs ≡ take a xs ++ take n (drop a xs)
 take_on xs a n h =
-    let f : take (length (take a xs) + n) (take a xs ++ drop a xs) ≡ take (a + n) xs =
-    ap₂ (λ (k : ℕ) (ys : List ℕ). take (k + n) ys) (length-take-le a xs h) (take-append-drop a xs) in
-    sym f ∙ take-append-add (take a xs) (drop a xs) n
+    cc (length-take-le a xs h, take-append-drop a xs, take-append-add (take a xs) (drop a xs) n)
 
 -- a piece comes out of its padding
 pub piece_back : (n : ℕ) (xs : List ℕ) → take (min (length xs) n) (padded n (take n xs)) ≡ take n xs
@@ -35,13 +33,13 @@ piece_placed payload room at n h k =
     let part : List ℕ = take n (drop at payload) in
     let a : List ℕ = take at payload in
     let b : List ℕ = drop at room in
-    let la : length a ≡ at = length-take-le at payload h in
-    let lp : length part ≡ min (length payload - at) n = length-take n (drop at payload) ∙ ap (min n) (length-drop at payload) ∙ min_comm n (length payload - at) in
-    let t : take at (a ++ b) ≡ a = take_at a b at la in
-    let d : drop at (a ++ b) ≡ b = drop_at a b at la in
-    let e : drop (length part) (drop at (a ++ b)) ≡ drop (at + length part) (a ++ b) = drop-drop (length part) at (a ++ b) in
-    let f : drop (length part) b ≡ drop (at + length part) room = drop-drop (length part) at room in
-    let g : drop (at + length part) room ≡ drop (at + min (length payload - at) n) room = ap (λ (j : ℕ). drop (at + j) room) lp in
-    let o : take (at + n) payload ≡ a ++ part = take_on payload at n h in
-    let w : (a ++ part) ++ drop (at + length part) room ≡ a ++ (part ++ drop (at + length part) room) = append_assoc a part (drop (at + length part) room) in
-    ap₂ (λ (x y : List ℕ). x ++ (part ++ y)) t (sym e ∙ ap (drop (length part)) d ∙ f) ∙ sym w ∙ ap₂ (λ (x y : List ℕ). x ++ y) (sym o) g
+    let la = length-take-le at payload h in
+    let lp : length part ≡ min (length payload - at) n = simp (length-take, length-drop) (omega arith) in
+    cc (
+      take_at a b at la,
+      drop_at a b at la,
+      drop-drop (length part) at (a ++ b),
+      drop-drop (length part) at room,
+      take_on payload at n h,
+      append_assoc a part (drop (at + length part) room),
+    )

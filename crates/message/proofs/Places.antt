@@ -1,16 +1,16 @@
 -- Bytes written into their place.
-use Rattle.std.proofs.Common.{◌≡◌, ℕ, ◌+◌, ◌-◌, List, [], ◌++◌, length, take, drop, replicate, refl, ap, ◌∙◌, arith, length-append}
+use Rattle.std.proofs.Common.{◌≡◌, ℕ, ◌-◌, ◌≤◌, min, List, [], ◌++◌, length, replicate, Ok, None, refl, ◌∙◌, arith, length-append}
 use borrow.Rule.Slice.PartMut.{put_mid}
 use Rattle.std.proofs.lemmas.List.{append_assoc, drop-drop, take_at, drop_at, drop-replicate}
+use Rattle.frame.specs.Codec.{or_else, size_refusal}
 use Rattle.message.specs.Copying.{written}
+use Rattle.message.specs.Making.{padded, snap, two_bytes, four_bytes, m_len, header_bytes, header_refusal}
 
 -- what a lent part leaves
 pub part_written : (at k : ℕ) (part ys room : List ℕ) → ys ≡ part → k ≡ length part → put_mid at k room ys ≡ written at part room
 unfolding written
 part_written at k part ys room e h =
-    let d = drop-drop k at room in
-    let f : drop (at + k) room ≡ drop (at + length part) room = ap (λ (n : ℕ). drop (at + n) room) h in
-    cc
+    cc (drop-drop k at room)
 
 -- a part written behind what stands in front of zeros
 pub written_next :
@@ -18,33 +18,54 @@ pub written_next :
 unfolding written
 written_next a b n i h =
     let z : List ℕ = replicate n 0 in
-    let t : take i (a ++ z) ≡ a = take_at a z i h in
-    let d : drop i (a ++ z) ≡ z = drop_at a z i h in
-    let e : drop (length b) (drop i (a ++ z)) ≡ drop (i + length b) (a ++ z) = drop-drop (length b) i (a ++ z) in
-    let f : drop (length b) z ≡ replicate (n - length b) 0 = drop-replicate (length b) n 0 in
-    let g = append_assoc a b (replicate (n - length b) 0) in
-    cc
+    cc (
+      take_at a z i h,
+      drop_at a z i h,
+      drop-drop (length b) i (a ++ z),
+      drop-replicate {X = ℕ} (length b) n 0,
+      append_assoc a b (replicate (n - length b) 0),
+    )
 
--- the same of bytes that are known to be such
-pub front_next :
-    (a b x y : List ℕ) (n i k : ℕ) → length a ≡ i → length b ≡ k → x ≡ a ++ replicate n 0 → y ≡ written i b x
-    → y ≡ (a ++ b) ++ replicate (n - k) 0
-front_next a b x y n i k h g e f =
-    let w = written_next a b n i h in
-    let z = ap (λ (j : ℕ). replicate {A = ℕ} (n - j) 0) g in
-    cc
+pub written_padded : (b : List ℕ) → written 0 b (replicate 32 0) ≡ padded 32 b
+unfolding padded
+written_padded b = written_next [] b 32 0 refl
 
 -- the six parts of a Header, one behind the other
-pub six_parts :
-    (d s m l t f : List ℕ) (x₁ x₂ x₃ x₄ x₅ x₆ : List ℕ)
-    → length d ≡ 6 → length s ≡ 6 → length m ≡ 4 → length l ≡ 6 → length t ≡ 2
-    → x₁ ≡ written 0 d (replicate 32 0) → x₂ ≡ written 6 s x₁ → x₃ ≡ written 12 m x₂ → x₄ ≡ written 16 l x₃ → x₅ ≡ written 22 t x₄ → x₆ ≡ written 24 f x₅
-    → x₆ ≡ d ++ (s ++ (m ++ (l ++ (t ++ (f ++ replicate (8 - length f) 0)))))
-six_parts d s m l t f x₁ x₂ x₃ x₄ x₅ x₆ hd hs hm hl ht e₁ e₂ e₃ e₄ e₅ e₆ =
-    let f₁ = front_next [] d (replicate 32 0) x₁ 32 0 6 refl hd refl e₁ in
-    let f₂ = front_next d s x₁ x₂ 26 6 6 hd hs f₁ e₂ in
-    let f₃ = front_next (d ++ s) m x₂ x₃ 20 12 4 (simp length-append (omega arith)) hm f₂ e₃ in
-    let f₄ = front_next ((d ++ s) ++ m) l x₃ x₄ 16 16 6 (simp length-append (omega arith)) hl f₃ e₄ in
-    let f₅ = front_next (((d ++ s) ++ m) ++ l) t x₄ x₅ 10 22 2 (simp length-append (omega arith)) ht f₄ e₅ in
-    let f₆ = front_next ((((d ++ s) ++ m) ++ l) ++ t) f x₅ x₆ 8 24 (length f) (simp length-append (omega arith)) refl f₅ e₆ in
-    f₆ ∙ simp append_assoc
+header_written :
+    (d s f : List ℕ) (t n : ℕ) → length d ≡ 6 → length s ≡ 6
+    → written 24 f (written 22 (two_bytes t) (written 16 snap (written 12 (four_bytes (m_len n)) (written 6 s (written 0 d (replicate 32 0))))))
+    ≡ header_bytes d s t n f
+unfolding padded header_bytes
+header_written d s f t n hd hs =
+    let m = four_bytes (m_len n) in
+    let k₂ : length (d ++ s) ≡ 12 = simp length-append (omega arith) in
+    let k₃ : length ((d ++ s) ++ m) ≡ 16 = simp length-append (omega arith) in
+    let k₄ : length (((d ++ s) ++ m) ++ snap) ≡ 22 = simp length-append (omega arith) in
+    let k₅ : length ((((d ++ s) ++ m) ++ snap) ++ two_bytes t) ≡ 24 = simp length-append (omega arith) in
+    let e : written 24 f (written 22 (two_bytes t) (written 16 snap (written 12 m (written 6 s (written 0 d (replicate 32 0))))))
+    ≡ (((((d ++ s) ++ m) ++ snap) ++ two_bytes t) ++ f) ++ replicate (8 - length f) 0 =
+    cc (
+      written_next [] d 32 0 refl,
+      written_next d s 26 6 hd,
+      written_next (d ++ s) m 20 12 k₂,
+      written_next ((d ++ s) ++ m) snap 16 16 k₃,
+      written_next (((d ++ s) ++ m) ++ snap) (two_bytes t) 10 22 k₄,
+      written_next ((((d ++ s) ++ m) ++ snap) ++ two_bytes t) f 8 24 k₅,
+    ) in
+    e ∙ simp append_assoc
+
+-- bytes that are as many as were asked for
+sized_is : (n : ℕ) (xs ys : List ℕ) → Ok ys ≡ or_else (size_refusal n (length xs)) xs → (length xs ≡ n) × (ys ≡ xs)
+sized_is n xs ys h = (grind arith, grind arith)
+
+-- the Header of what fits
+pub header_of_parts :
+    (d s D S f : List ℕ) (t n : ℕ) → Ok D ≡ or_else (size_refusal 6 (length d)) d → Ok S ≡ or_else (size_refusal 6 (length s)) s
+    → n ≤ 4294967287 → length f ≡ min n 8
+    → Ok (written 24 f (written 22 (two_bytes t) (written 16 snap (written 12 (four_bytes (m_len n)) (written 6 S (written 0 D (replicate 32 0)))))))
+    ≡ or_else (header_refusal (length d) (length s) n (length f)) (header_bytes d s t n f)
+header_of_parts d s D S f t n hd hs le e =
+    let a = sized_is 6 d D hd in
+    let b = sized_is 6 s S hs in
+    let k : header_refusal (length d) (length s) n (length f) ≡ None = grind arith in
+    cc (a.1, b.1, header_written d s f t n a.0 b.0, k)

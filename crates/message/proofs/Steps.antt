@@ -1,87 +1,162 @@
 -- What comes of a micropacket, from what its steps say.
-use Rattle.std.proofs.Common.{◌≡◌, ℕ, Bool, true, false, cond, eqb, ltb, List, length, Some, None, Ok, Err, Option, Result, sym, refl, ap, ◌∙◌, ap₂, arith, eq-eqb}
+use Rattle.std.proofs.Common.{◌≡◌, ℕ, min, Bool, true, false, cond, ltb, List, length, take, drop, Some, None, Ok, Err, Option, Result, refl, ap, ◌∙◌, arith, length-drop, eq-eqb, sym}
+use Rattle.std.proofs.lemmas.Bool.{ltb-true}
+use Rattle.std.proofs.lemmas.List.{take_all}
+use Rattle.frame.specs.declared.channel.Channel.{Channel}
 use Rattle.frame.specs.declared.kind.Kind.{Kind}
 use Rattle.frame.specs.declared.refusal.Refusal.{Refusal}
-use Rattle.frame.specs.declared.refusal.Refusal.TheVariants.{BadSize}
-use Rattle.frame.specs.Codec.{or_else}
-use Rattle.frame.specs.Naming.{kind_at, kind_or, channel_number}
+use Rattle.frame.specs.declared.refusal.Refusal.TheVariants.{BadChannel, BadSize}
+use Rattle.frame.specs.Codec.{or_else, size_refusal}
+use Rattle.frame.specs.Naming.{kind_at, kind_or, channel_at, channel_or, channel_number}
+use Rattle.frame.proofs.Roundtrip.{channel_back, number_back}
+use Rattle.message.specs.declared.heading.Heading.{Heading}
 use Rattle.message.specs.declared.reader.Reader.{Reader}
 use Rattle.message.specs.declared.reader.Underway.{Underway}
+use Rattle.message.specs.declared.reader.Outcome.{Outcome}
 use Rattle.message.specs.declared.reader.Read.{Read}
+use Rattle.message.specs.declared.reader.Read.TheVariants.{Begins}
 use Rattle.message.specs.declared.reader.Part.{Part}
-use Rattle.message.specs.Reading.{part_of, with_message, unless, first_of, outside_refusal, outside_answer, outside_message, outside_buffer, due_answer, due_message, due_buffer, shape_refusal, step_refusal, read_refusal, read_answer, after, reader_after, buffer_after}
+use Rattle.message.specs.declared.reader.Part.TheVariants.{First}
+use Rattle.message.specs.Reading.{Handed, part_of, heading_in, with_message, unless, heading_refusal, carried_refusal, carried_outcome, carried_buffer, place_of, left_of, begin_refusal, begun_buffer, due_outcome, due_answer, due_message, due_buffer, shaped, step_refusal, stepped, read_refusal, read_answer, after, reader_after, buffer_after, Within, due_refusal}
+use Rattle.message.specs.Whole.{RefusalsDrop, MessagesComeWhole, CutsAreMarked}
+use Rattle.message.proofs.Along.{messages_come_whole, cuts_are_marked}
+use Rattle.message.proofs.Dropping.{refusals_drop}
+use Rattle.message.proofs.Rooms.{within}
 
--- what the look-up of a TYPE tells
-kind_at_ok : (b : Bool) (k l : Kind) → Ok l ≡ cond b (Ok k) (Err BadSize) → l ≡ k
-kind_at_ok true k l e = cc
-kind_at_ok false k l e = let z : ◌≡◌ {A = ℕ} 0 1 = cc in absurd (omega arith)
+-- all that a call of `read` ensures
+abbrev pub Ensures : Reader → Handed → List ℕ → Result Read Refusal → Reader → List ℕ → Type 0
+Ensures s p buffer r s' buffer' =
+    record {
+      value : r ≡ or_else (read_refusal s p (length buffer)) (read_answer s p);
+      state : s' ≡ reader_after s p (length buffer);
+      bytes : buffer' ≡ buffer_after s p buffer;
+      within : Within (length buffer) r;
+      drops : RefusalsDrop;
+      whole : MessagesComeWhole;
+      cut : CutsAreMarked;
+    }
 
-pub kind_told : (n : ℕ) (k : Kind) → Ok k ≡ kind_or n → k ≡ kind_at n
-kind_told n k e = kind_at_ok (ltb n 16) (kind_at n) k e
-
-kind_at_err : (b : Bool) (k : Kind) (e : Refusal) → Err e ≡ cond b (Ok k) (Err BadSize) → e ≡ BadSize
-kind_at_err true k e h = let z : ◌≡◌ {A = ℕ} 0 1 = cc in absurd (omega arith)
-kind_at_err false k e h = cc
-
-pub kind_refused : (n : ℕ) (e : Refusal) → Err e ≡ kind_or n → e ≡ BadSize
-kind_refused n e h = kind_at_err (ltb n 16) (kind_at n) e h
-
--- the three things that a call of `read` ensures
-abbrev pub Outcome : Reader → ℕ → ℕ → Bool → Bool → List ℕ → List ℕ → Result Read Refusal → Reader → List ℕ → Type 0
-Outcome s channel kind tail error content buffer r s' buffer' =
-    (r ≡ or_else (read_refusal s channel kind tail error content (length buffer)) (read_answer s kind content))
-    × (s' ≡ reader_after s channel kind tail error content (length buffer))
-    × (buffer' ≡ buffer_after s channel kind tail error content buffer)
+ensured :
+    (s : Reader) (p : Handed) (buffer : List ℕ) (r : Result Read Refusal) (s' : Reader) (buffer' : List ℕ)
+    → r ≡ or_else (read_refusal s p (length buffer)) (read_answer s p) → s' ≡ reader_after s p (length buffer) → buffer' ≡ buffer_after s p buffer
+    → Ensures s p buffer r s' buffer'
+ensured s p buffer r s' buffer' e₁ e₂ e₃ =
+    record {
+      value = e₁;
+      state = e₂;
+      bytes = e₃;
+      within = within s p (length buffer) r e₁;
+      drops = refusals_drop;
+      whole = messages_come_whole;
+      cut = cuts_are_marked;
+    }
 
 -- what is no micropacket changes nothing
-pub no_micropacket :
-    (s : Reader) (channel kind : ℕ) (tail error : Bool) (content buffer : List ℕ) (e : Refusal)
-    → shape_refusal channel kind (length content) ≡ Some e → Outcome s channel kind tail error content buffer (Err e) s buffer
+no_micropacket : (s : Reader) (p : Handed) (buffer : List ℕ) (e : Refusal) → shaped p ≡ Some e → Ensures s p buffer (Err e) s buffer
 unfolding read_refusal read_answer reader_after buffer_after
-no_micropacket s channel kind tail error content buffer e h =
-    let part = part_of (kind_at kind) in
-    let later = step_refusal s channel part tail error content (length buffer) in (
-      ap (λ (o : Option Refusal). or_else (first_of o later) (read_answer s kind content)) (sym h),
-      ap (λ (o : Option Refusal). after o later s (due_message s.message part content)) (sym h),
-      ap (λ (o : Option Refusal). unless (first_of o later) (due_buffer s.message part content buffer) buffer) (sym h),
-    )
+no_micropacket s p buffer e h = ensured s p buffer (Err e) s buffer (cc) (cc) (cc)
+
+pub no_channel : (s : Reader) (p : Handed) (buffer : List ℕ) (e : Refusal) → Err e ≡ channel_or p.channel → Ensures s p buffer (Err e) s buffer
+no_channel s p buffer e h = no_micropacket s p buffer e (grind arith)
+
+pub no_content :
+    (s : Reader) (p : Handed) (buffer : List ℕ) (c : Channel) (e : Refusal)
+    → Ok c ≡ channel_or p.channel → Err e ≡ or_else (size_refusal 32 (length p.content)) p.content → Ensures s p buffer (Err e) s buffer
+no_content s p buffer c e h k = no_micropacket s p buffer e (grind arith)
+
+pub no_kind :
+    (s : Reader) (p : Handed) (buffer : List ℕ) (c : Channel) (xs : List ℕ) (e : Refusal)
+    → Ok c ≡ channel_or p.channel → Ok xs ≡ or_else (size_refusal 32 (length p.content)) p.content → Err e ≡ kind_or p.kind
+    → Ensures s p buffer (Err e) s buffer
+no_kind s p buffer c xs e h k l = no_micropacket s p buffer e (grind arith)
+
+looked_up : {X : Type 0} (b : Bool) (x y : X) (e : Refusal) → Ok y ≡ cond b (Ok x) (Err e) → (b ≡ true) × (y ≡ x)
+looked_up true x y e h = (refl, cc)
+looked_up false x y e h = absurd cc
+
+fits :
+    (p : Handed) (c : Channel) (xs : List ℕ) (k : Kind)
+    → Ok c ≡ channel_or p.channel → Ok xs ≡ or_else (size_refusal 32 (length p.content)) p.content → Ok k ≡ kind_or p.kind
+    → (shaped p ≡ None) × (channel_number c ≡ p.channel) × (xs ≡ p.content) × (k ≡ kind_at p.kind)
+fits p c xs k h l m =
+    let a = looked_up (ltb p.channel 4) (channel_at p.channel) c BadChannel h in
+    let b = looked_up (ltb p.kind 16) (kind_at p.kind) k BadSize m in
+    (grind arith, ap channel_number a.1 ∙ channel_back p.channel (ltb-true p.channel 4 a.0), grind arith, b.1)
 
 dropped : (s : Reader) (m : Option Underway) (o : Option Refusal) → unless o (with_message s m) (with_message s None) ≡ after None o s m
 dropped s m None = refl
 dropped s m (Some e) = refl
 
 -- what is one goes on to its step
-pub stepped :
-    (s : Reader) (channel kind : ℕ) (part : Part) (tail error : Bool) (content buffer : List ℕ) (r : Result Read Refusal) (s' : Reader) (buffer' : List ℕ)
-    → part ≡ part_of (kind_at kind) → shape_refusal channel kind (length content) ≡ None
-    → r ≡ or_else (step_refusal s channel part tail error content (length buffer)) (due_answer s.message part content)
-    → s' ≡ unless (step_refusal s channel part tail error content (length buffer)) (with_message s (due_message s.message part content)) (with_message s None)
-    → buffer' ≡ unless (step_refusal s channel part tail error content (length buffer)) (due_buffer s.message part content buffer) buffer
-    → Outcome s channel kind tail error content buffer r s' buffer'
+pub goes_on :
+    (s : Reader) (p : Handed) (buffer : List ℕ) (c : Channel) (k : Kind) (part : Part) (xs : List ℕ) (r : Result Read Refusal) (s' : Reader) (buffer' : List ℕ)
+    → Ok c ≡ channel_or p.channel → Ok xs ≡ or_else (size_refusal 32 (length p.content)) p.content → Ok k ≡ kind_or p.kind → part ≡ part_of k
+    → r ≡ or_else (step_refusal s (channel_number c) part p.tail p.error xs (length buffer)) (due_answer s.message part xs)
+    → s' ≡ unless (step_refusal s (channel_number c) part p.tail p.error xs (length buffer)) (with_message s (due_message s.message part xs)) (with_message s None)
+    → buffer' ≡ unless (step_refusal s (channel_number c) part p.tail p.error xs (length buffer)) (due_buffer s.message part xs buffer) buffer
+    → Ensures s p buffer r s' buffer'
 unfolding read_refusal read_answer reader_after buffer_after
-stepped s channel kind part tail error content buffer r s' buffer' p h e₁ e₂ e₃ =
-    let later : Part → Option Refusal = λ q. step_refusal s channel q tail error content (length buffer) in (
-      e₁ ∙ ap₂ (λ (o : Option Refusal) (q : Part). or_else (first_of o (later q)) (due_answer s.message q content)) (sym h) p,
-      e₂ ∙ dropped s (due_message s.message part content) (later part)
-          ∙ ap₂ (λ (o : Option Refusal) (q : Part). after o (later q) s (due_message s.message q content)) (sym h) p,
-      e₃ ∙ ap₂ (λ (o : Option Refusal) (q : Part). unless (first_of o (later q)) (due_buffer s.message q content buffer) buffer) (sym h) p,
-    )
+goes_on s p buffer c k part xs r s' buffer' h l m q e₁ e₂ e₃ =
+    let f = fits p c xs k h l m in
+    let step : step_refusal s (channel_number c) part p.tail p.error xs (length buffer) ≡ stepped s p (length buffer) = cc in
+    let drop = dropped s (due_message s.message part xs) (step_refusal s (channel_number c) part p.tail p.error xs (length buffer)) in
+    ensured s p buffer r s' buffer' (cc) (cc) (cc)
 
--- outside a Message, with no ERROR and on the reader's channel
-pub stepped_outside :
-    (s : Reader) (m : Option Underway) (channel : ℕ) (part : Part) (tail error : Bool) (content buffer : List ℕ) (r : Result Read Refusal) (s' : Reader) (buffer' : List ℕ)
-    → s.message ≡ None → m ≡ None → error ≡ false → channel ≡ channel_number s.channel
-    → r ≡ or_else (outside_refusal part s.channel tail content (length buffer)) (outside_answer part content)
-    → s' ≡ unless (outside_refusal part s.channel tail content (length buffer)) (with_message s (outside_message part content)) (with_message s m)
-    → buffer' ≡ unless (outside_refusal part s.channel tail content (length buffer)) (outside_buffer part content buffer) buffer
-    → (r ≡ or_else (step_refusal s channel part tail error content (length buffer)) (due_answer s.message part content))
-    × (s' ≡ unless (step_refusal s channel part tail error content (length buffer)) (with_message s (due_message s.message part content)) (with_message s None))
-    × (buffer' ≡ unless (step_refusal s channel part tail error content (length buffer)) (due_buffer s.message part content buffer) buffer)
-stepped_outside s m channel part tail error content buffer r s' buffer' none gone e same e₁ e₂ e₃ =
-    let t : eqb channel (channel_number s.channel) ≡ true = eq-eqb channel (channel_number s.channel) same in
-    let h : step_refusal s channel part tail error content (length buffer) ≡ outside_refusal part s.channel tail content (length buffer) = cc in (
-      e₁ ∙ ap₂ (λ (o : Option Refusal) (n : Option Underway). or_else o (due_answer n part content)) (sym h) (sym none),
-      e₂ ∙ ap (λ (n : Option Underway). unless (outside_refusal part s.channel tail content (length buffer)) (with_message s (outside_message part content)) (with_message s n)) gone
-          ∙ ap₂ (λ (o : Option Refusal) (n : Option Underway). unless o (with_message s (due_message n part content)) (with_message s None)) (sym h) (sym none),
-      e₃ ∙ ap₂ (λ (o : Option Refusal) (n : Option Underway). unless o (due_buffer n part content buffer) buffer) (sym h) (sym none),
-    )
+-- on the reader's channel and with no ERROR, what is due decides
+pub decided :
+    (s : Reader) (c : Channel) (part : Part) (tail error : Bool) (xs : List ℕ) (room : ℕ) → error ≡ false → channel_number c ≡ channel_number s.channel
+    → due_refusal s.message part c tail xs room ≡ step_refusal s (channel_number c) part tail error xs room
+decided s c part tail error xs room e h =
+    let t = eq-eqb (channel_number c) (channel_number s.channel) h in
+    let same : c ≡ s.channel = sym (number_back c).0 ∙ ap channel_at h ∙ (number_back s.channel).0 in
+    cc
+
+-- a Header that no Message begins with
+pub begins_not :
+    (c : Channel) (tail : Bool) (content buffer : List ℕ) (e : Refusal) → Err e ≡ or_else (heading_refusal c content) (heading_in content)
+    → (Err e ≡ or_else (begin_refusal c tail content (length buffer)) (due_outcome None First content))
+    × (buffer ≡ unless (begin_refusal c tail content (length buffer)) (begun_buffer content buffer) buffer)
+begins_not c tail content buffer e h = (grind arith, grind arith)
+
+-- a Header that one does begin with goes on to its piece
+abbrev pub headed : Heading → Underway
+headed h = record { heading = h; came = 0 }
+
+-- the piece of a Header
+pub head_of : (content : List ℕ) → length content ≡ 32 → take 8 (drop 24 content) ≡ drop 24 content
+head_of content h = take_all 8 (drop 24 content) (simp length-drop (omega arith))
+
+headed_refusal :
+    (c : Channel) (tail : Bool) (content piece : List ℕ) (room : ℕ) (h : Heading)
+    → length content ≡ 32 → piece ≡ drop 24 content → Ok h ≡ or_else (heading_refusal c content) (heading_in content)
+    → carried_refusal (length piece) h.size (left_of (headed h)) tail room ≡ begin_refusal c tail content room
+headed_refusal c tail content piece room h long is e =
+    let n : length piece ≡ 8 = ap length is ∙ simp length-drop (omega arith) in
+    let l : left_of (headed h) ≡ h.size = omega arith in
+    grind arith
+
+pub begins_bytes :
+    (c : Channel) (tail : Bool) (content piece buffer buffer' : List ℕ) (h : Heading)
+    → length content ≡ 32 → piece ≡ drop 24 content → Ok h ≡ or_else (heading_refusal c content) (heading_in content)
+    → buffer' ≡ unless (carried_refusal (length piece) h.size (left_of (headed h)) tail (length buffer)) (carried_buffer (length piece) (headed h) piece buffer) buffer
+    → buffer' ≡ unless (begin_refusal c tail content (length buffer)) (begun_buffer content buffer) buffer
+begins_bytes c tail content piece buffer buffer' h long is e after =
+    let o : h ≡ heading_in content = grind arith in
+    let n : length piece ≡ 8 = ap length is ∙ simp length-drop (omega arith) in
+    let p : place_of (headed h) ≡ 0 = omega arith in
+    let l : min (left_of (headed h)) (length piece) ≡ min h.size 8 = omega arith in
+    let f = headed_refusal c tail content piece (length buffer) h long is e in
+    cc
+
+pub begins_value :
+    (c : Channel) (tail : Bool) (content piece : List ℕ) (room : ℕ) (h : Heading) (r : Result Outcome Refusal)
+    → length content ≡ 32 → piece ≡ drop 24 content → Ok h ≡ or_else (heading_refusal c content) (heading_in content)
+    → r ≡ or_else (carried_refusal (length piece) h.size (left_of (headed h)) tail room) (carried_outcome (length piece) (headed h) (Begins h))
+    → r ≡ or_else (begin_refusal c tail content room) (due_outcome None First content)
+begins_value c tail content piece room h r long is e was =
+    let o : (heading_refusal c content ≡ None) × (h ≡ heading_in content) = (grind arith, grind arith) in
+    let n : length piece ≡ 8 = ap length is ∙ simp length-drop (omega arith) in
+    let p : place_of (headed h) ≡ 0 = omega arith in
+    let l : left_of (headed h) ≡ h.size = omega arith in
+    let f = headed_refusal c tail content piece room h long is e in
+    cc

@@ -1,11 +1,13 @@
 -- What the micropackets of a Message are.
-use Rattle.std.specs.Prelude.{◌≡◌, ℕ, zero, suc, ◌+◌, ◌-◌, ◌/◌, ◌%◌, ◌^◌, ◌<◌, ◌≤◌, min, Bool, true, false, cond, List, [], ◌∷◌, ◌++◌, length, take, drop, replicate, Some, None, Option, ◌==◌, nat_le, nat_lt}
+use Rattle.std.specs.Prelude.{◌≡◌, ℕ, zero, suc, ◌+◌, ◌-◌, ◌/◌, ◌%◌, ◌^◌, ◌<◌, ◌≤◌, min, Bool, true, false, cond, List, [], ◌∷◌, ◌++◌, length, take, drop, replicate, Some, None, Option, Result, ◌==◌, nat_le, nat_lt}
 use Rattle.frame.specs.declared.channel.Channel.{Channel}
 use Rattle.frame.specs.declared.channel.Channel.TheVariants.{Vc0, Vc1, Vc2, Vc3}
 use Rattle.frame.specs.declared.kind.Kind.{Kind}
 use Rattle.frame.specs.declared.kind.Kind.TheVariants.{Data, Header}
 use Rattle.frame.specs.declared.refusal.Refusal.{Refusal}
 use Rattle.frame.specs.declared.refusal.Refusal.TheVariants.{BadSize}
+use Rattle.frame.specs.Codec.{or_else}
+use Rattle.message.specs.declared.opening.Opening.{Opening}
 
 -- the longest payload of a Message on each channel
 abbrev pub longest_payload : Channel → ℕ
@@ -49,6 +51,12 @@ header_refusal destination source total first =
     cond (destination == 6)
     (cond (source == 6) (cond (nat_lt 4294967287 total) (Some BadSize) (cond (first == min total 8) None (Some BadSize))) (Some BadSize))
     (Some BadSize)
+
+-- the answer where the Header of an opening is asked for
+abbrev pub header_made : Opening → Result (List ℕ) Refusal
+header_made o =
+    or_else (header_refusal (length o.destination.now) (length o.source.now) o.total (length o.first.now))
+    (header_bytes o.destination.now o.source.now o.ether_type o.total o.first.now)
 
 -- what is refused where a Data is made: a piece that is not the next 32 bytes of the payload, or all that is left
 abbrev pub piece_refusal : ℕ → ℕ → Option Refusal

@@ -12,6 +12,8 @@ use Rattle.message.specs.declared.reader.Reader.{Reader}
 use Rattle.message.specs.declared.reader.Underway.{Underway}
 use Rattle.message.specs.declared.reader.Read.{Read}
 use Rattle.message.specs.declared.reader.Read.TheVariants as reads
+use Rattle.message.specs.declared.reader.Taken.{Taken}
+use Rattle.message.specs.declared.reader.Outcome.{Outcome}
 use Rattle.message.specs.declared.reader.Part.{Part}
 use Rattle.message.specs.declared.reader.Part.TheVariants.{First, Next, Alone, Foreign}
 use Rattle.message.specs.Copying.{written}
@@ -54,7 +56,7 @@ heading_in content =
     record {
       destination = take 6 content;
       source = take 6 (drop 6 content);
-      ethertype = two_at 22 content;
+      ether_type = two_at 22 content;
       size = four_at 12 content - 8;
     }
 
@@ -69,14 +71,44 @@ made_reader channel = cond (nat_lt channel 4) (Ok (fresh (channel_at channel))) 
 abbrev pub tail_refusal : Bool → Bool → Option Refusal
 tail_refusal tail completes = cond (agree tail completes) None (Some OutOfStep)
 
--- a Header where one is due: LLC/SNAP, M_len, the room for its payload, TAIL
-abbrev pub begin_refusal : Channel → Bool → List ℕ → ℕ → Option Refusal
-begin_refusal channel tail content room =
+-- the first of two refusals
+abbrev pub first_of : Option Refusal → Option Refusal → Option Refusal
+first_of None later = later
+first_of (Some e) later = Some e
+
+-- where the next piece of a Message goes, and how much is left from there on
+abbrev pub place_of : Underway → ℕ
+place_of u = min u.came u.heading.size
+
+abbrev pub left_of : Underway → ℕ
+left_of u = u.heading.size - place_of u
+
+-- a piece of up to n bytes, of a payload of so many of which so many are left: the room for all of it, TAIL
+abbrev pub carried_refusal : ℕ → ℕ → ℕ → Bool → ℕ → Option Refusal
+carried_refusal n size left tail room = cond (nat_lt room size) (Some NoSpace) (tail_refusal tail (nat_le left n))
+
+-- what comes of it, with the answer where more is to come, and the buffer
+abbrev pub carried_on : ℕ → Underway → Option Underway
+carried_on n u = cond (nat_le (left_of u) n) None (Some (record { heading = u.heading; came = place_of u + n }))
+
+abbrev pub carried_outcome : ℕ → Underway → Read → Outcome
+carried_outcome n u more = record { answer = cond (nat_le (left_of u) n) (reads.Complete u.heading) more; message = carried_on n u }
+
+abbrev pub carried_buffer : ℕ → Underway → List ℕ → List ℕ → List ℕ
+carried_buffer n u piece buffer = written (place_of u) (take (min (left_of u) n) piece) buffer
+
+-- a Header that no Message on the channel begins with: LLC/SNAP, M_len
+abbrev pub heading_refusal : Channel → List ℕ → Option Refusal
+heading_refusal channel content =
     cond (bytes_eq (take 6 (drop 16 content)) snap)
     (cond (nat_lt (four_at 12 content) 8) (Some BadHeader)
-    (cond (nat_lt (m_len (longest_payload channel)) (four_at 12 content)) (Some BadHeader)
-    (cond (nat_lt room (heading_in content).size) (Some NoSpace) (tail_refusal tail (nat_le (heading_in content).size 8)))))
+    (cond (nat_lt (m_len (longest_payload channel)) (four_at 12 content)) (Some BadHeader) None))
     (Some BadHeader)
+
+-- a Header where one is due: what it says, the room for its payload, TAIL
+abbrev pub begin_refusal : Channel → Bool → List ℕ → ℕ → Option Refusal
+begin_refusal channel tail content room =
+    first_of (heading_refusal channel content) (carried_refusal 8 (heading_in content).size (heading_in content).size tail room)
 
 abbrev pub begin_answer : List ℕ → Read
 begin_answer content = cond (nat_le (heading_in content).size 8) (reads.Complete (heading_in content)) (reads.Begins (heading_in content))
@@ -91,25 +123,18 @@ begun_buffer content buffer = written 0 (take (min (heading_in content).size 8) 
 abbrev pub alone_refusal : Bool → Option Refusal
 alone_refusal tail = tail_refusal tail true
 
--- where the next piece of a Message goes, and how much is left from there on
-abbrev pub place_of : Underway → ℕ
-place_of u = min u.came u.heading.size
-
-abbrev pub left_of : Underway → ℕ
-left_of u = u.heading.size - place_of u
-
 -- a Data where one is due: the room for the whole payload, TAIL
 abbrev pub next_refusal : Underway → Bool → ℕ → Option Refusal
-next_refusal u tail room = cond (nat_lt room u.heading.size) (Some NoSpace) (tail_refusal tail (nat_le (left_of u) 32))
+next_refusal u tail room = carried_refusal 32 u.heading.size (left_of u) tail room
 
 abbrev pub next_answer : Underway → Read
 next_answer u = cond (nat_le (left_of u) 32) (reads.Complete u.heading) (reads.Piece (place_of u) 32)
 
 abbrev pub gone_on : Underway → Option Underway
-gone_on u = cond (nat_le (left_of u) 32) None (Some (record { heading = u.heading; came = place_of u + 32 }))
+gone_on u = carried_on 32 u
 
 abbrev pub next_buffer : Underway → List ℕ → List ℕ → List ℕ
-next_buffer u content buffer = written (place_of u) (take (min (left_of u) 32) content) buffer
+next_buffer u content buffer = carried_buffer 32 u content buffer
 
 -- a reader with a Message under way, or none
 abbrev pub with_message : Reader → Option Underway → Reader
@@ -120,6 +145,17 @@ abbrev pub unless : {X : Type 0} → Option Refusal → X → X → X
 unless None new old = new
 unless (Some e) new old = old
 
+-- outside a Message a Header or an Admin is due, inside it a Data
+abbrev pub due_refusal : Option Underway → Part → Channel → Bool → List ℕ → ℕ → Option Refusal
+due_refusal None First channel tail content room = begin_refusal channel tail content room
+due_refusal None Next channel tail content room = Some OutOfStep
+due_refusal None Alone channel tail content room = alone_refusal tail
+due_refusal None Foreign channel tail content room = Some OutOfStep
+due_refusal (Some u) First channel tail content room = Some OutOfStep
+due_refusal (Some u) Next channel tail content room = next_refusal u tail room
+due_refusal (Some u) Alone channel tail content room = Some OutOfStep
+due_refusal (Some u) Foreign channel tail content room = Some OutOfStep
+
 -- a Header
 abbrev pub is_first : Part → Bool
 is_first First = true
@@ -127,50 +163,41 @@ is_first Next = false
 is_first Alone = false
 is_first Foreign = false
 
--- outside a Message a Header or an Admin is due
-abbrev pub outside_refusal : Part → Channel → Bool → List ℕ → ℕ → Option Refusal
-outside_refusal First channel tail content room = begin_refusal channel tail content room
-outside_refusal Next channel tail content room = Some OutOfStep
-outside_refusal Alone channel tail content room = alone_refusal tail
-outside_refusal Foreign channel tail content room = Some OutOfStep
-
-abbrev pub outside_answer : Part → List ℕ → Read
-outside_answer part content = cond (is_first part) (begin_answer content) reads.Admin
-
-abbrev pub outside_message : Part → List ℕ → Option Underway
-outside_message part content = cond (is_first part) (begun content) None
-
-abbrev pub outside_buffer : Part → List ℕ → List ℕ → List ℕ
-outside_buffer part content buffer = cond (is_first part) (begun_buffer content buffer) buffer
-
--- inside a Message a Data is due
-abbrev pub inside_refusal : Underway → Part → Bool → ℕ → Option Refusal
-inside_refusal u First tail room = Some OutOfStep
-inside_refusal u Next tail room = next_refusal u tail room
-inside_refusal u Alone tail room = Some OutOfStep
-inside_refusal u Foreign tail room = Some OutOfStep
-
--- by what is under way
-abbrev pub due_refusal : Option Underway → Part → Channel → Bool → List ℕ → ℕ → Option Refusal
-due_refusal None part channel tail content room = outside_refusal part channel tail content room
-due_refusal (Some u) part channel tail content room = inside_refusal u part tail room
-
+-- the answer, the Message that is under way afterwards, and the buffer
 abbrev pub due_answer : Option Underway → Part → List ℕ → Read
-due_answer None part content = outside_answer part content
+due_answer None part content = cond (is_first part) (begin_answer content) reads.Admin
 due_answer (Some u) part content = next_answer u
 
 abbrev pub due_message : Option Underway → Part → List ℕ → Option Underway
-due_message None part content = outside_message part content
+due_message None part content = cond (is_first part) (begun content) None
 due_message (Some u) part content = gone_on u
 
+abbrev pub due_outcome : Option Underway → Part → List ℕ → Outcome
+due_outcome message part content = record { answer = due_answer message part content; message = due_message message part content }
+
 abbrev pub due_buffer : Option Underway → Part → List ℕ → List ℕ → List ℕ
-due_buffer None part content buffer = outside_buffer part content buffer
+due_buffer None part content buffer = cond (is_first part) (begun_buffer content buffer) buffer
 due_buffer (Some u) part content buffer = next_buffer u content buffer
+
+-- a micropacket as it is handed to a reader
+pub record Handed : Type 0 where
+  pub channel : ℕ
+  pub kind : ℕ
+  pub tail : Bool
+  pub error : Bool
+  pub content : List ℕ
+
+abbrev pub handed : Taken → Handed
+handed t = record { channel = t.channel; kind = t.kind; tail = t.tail; error = t.error; content = t.content.now }
+
+-- what its TYPE is to a Message
+abbrev pub part_in : Handed → Part
+part_in p = part_of (kind_at p.kind)
 
 -- what is refused of numbers and bytes that are no micropacket
 abbrev pub shape_refusal : ℕ → ℕ → ℕ → Option Refusal
 shape_refusal channel kind size =
-    cond (nat_lt 3 channel) (Some BadChannel) (cond (size == 32) (cond (nat_lt kind 16) None (Some BadSize)) (Some BadSize))
+    cond (nat_lt channel 4) (cond (size == 32) (cond (nat_lt kind 16) None (Some BadSize)) (Some BadSize)) (Some BadChannel)
 
 -- what is refused of a micropacket: ERROR, another channel than the reader's, and what is not due
 abbrev pub step_refusal : Reader → ℕ → Part → Bool → Bool → List ℕ → ℕ → Option Refusal
@@ -180,19 +207,19 @@ step_refusal reader channel part tail error content room =
     (due_refusal reader.message part reader.channel tail content room)
     (Some OutOfStep))
 
--- the first of two refusals
-abbrev pub first_of : Option Refusal → Option Refusal → Option Refusal
-first_of None later = later
-first_of (Some e) later = Some e
+abbrev pub shaped : Handed → Option Refusal
+shaped p = shape_refusal p.channel p.kind (length p.content)
 
--- what is refused where a reader is handed a micropacket's channel, TYPE, TAIL, ERROR and data, and room for a payload
-unfoldable pub read_refusal : Reader → ℕ → ℕ → Bool → Bool → List ℕ → ℕ → Option Refusal
-read_refusal reader channel kind tail error content room =
-    first_of (shape_refusal channel kind (length content)) (step_refusal reader channel (part_of (kind_at kind)) tail error content room)
+abbrev pub stepped : Reader → Handed → ℕ → Option Refusal
+stepped reader p room = step_refusal reader p.channel (part_in p) p.tail p.error p.content room
+
+-- what is refused where a reader is handed a micropacket, and room for a payload
+unfoldable pub read_refusal : Reader → Handed → ℕ → Option Refusal
+read_refusal reader p room = first_of (shaped p) (stepped reader p room)
 
 -- the answer
-unfoldable pub read_answer : Reader → ℕ → List ℕ → Read
-read_answer reader kind content = due_answer reader.message (part_of (kind_at kind)) content
+unfoldable pub read_answer : Reader → Handed → Read
+read_answer reader p = due_answer reader.message (part_in p) p.content
 
 -- the reader afterwards: what is no micropacket leaves its Message, and a micropacket that is refused drops it
 abbrev pub after : Option Refusal → Option Refusal → Reader → Option Underway → Reader
@@ -200,16 +227,13 @@ after None None reader message = with_message reader message
 after None (Some e) reader message = with_message reader None
 after (Some e) later reader message = reader
 
-unfoldable pub reader_after : Reader → ℕ → ℕ → Bool → Bool → List ℕ → ℕ → Reader
-reader_after reader channel kind tail error content room =
-    after (shape_refusal channel kind (length content)) (step_refusal reader channel (part_of (kind_at kind)) tail error content room)
-    reader (due_message reader.message (part_of (kind_at kind)) content)
+unfoldable pub reader_after : Reader → Handed → ℕ → Reader
+reader_after reader p room = after (shaped p) (stepped reader p room) reader (due_message reader.message (part_in p) p.content)
 
 -- the buffer afterwards
-unfoldable pub buffer_after : Reader → ℕ → ℕ → Bool → Bool → List ℕ → List ℕ → List ℕ
-buffer_after reader channel kind tail error content buffer =
-    unless (read_refusal reader channel kind tail error content (length buffer))
-    (due_buffer reader.message (part_of (kind_at kind)) content buffer) buffer
+unfoldable pub buffer_after : Reader → Handed → List ℕ → List ℕ
+buffer_after reader p buffer =
+    unless (read_refusal reader p (length buffer)) (due_buffer reader.message (part_in p) p.content buffer) buffer
 
 -- what an answer says of the buffer lies within it
 abbrev pub LiesWithin : ℕ → Read → Type 0

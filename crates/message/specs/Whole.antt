@@ -1,5 +1,5 @@
 -- What comes of the micropackets of a Message, handed to a reader in order.
-use Rattle.std.specs.Prelude.{◌≡◌, ℕ, ◌<◌, ◌≤◌, Bool, cond, List, [], ◌∷◌, ◌++◌, length, take, drop, Some, None, Ok, Err, Result, nat_le}
+use Rattle.std.specs.Prelude.{◌≡◌, ℕ, ◌<◌, ◌≤◌, cond, List, [], ◌∷◌, ◌++◌, length, take, drop, Some, None, Ok, Err, Result, nat_le}
 use Rattle.frame.specs.declared.channel.Channel.{Channel}
 use Rattle.frame.specs.declared.refusal.Refusal.{Refusal}
 use Rattle.frame.specs.declared.refusal.Refusal.TheVariants.{Marked}
@@ -11,19 +11,21 @@ use Rattle.message.specs.declared.reader.Reader.{Reader}
 use Rattle.message.specs.declared.reader.Read.{Read}
 use Rattle.message.specs.declared.reader.Read.TheVariants.{Begins, Piece, Complete, Admin}
 use Rattle.message.specs.Making.{Message, Micropacket, Loadable, micropackets_of, cut_off}
-use Rattle.message.specs.Reading.{fresh, with_message, read_refusal, read_answer, reader_after, buffer_after}
+use Rattle.message.specs.Reading.{Handed, fresh, with_message, read_refusal, read_answer, reader_after, buffer_after}
+
+-- a micropacket of a channel, as it is handed in
+abbrev pub handed_on : Channel → Micropacket → Handed
+handed_on c p = record { channel = channel_number c; kind = type_of p.kind; tail = p.tail; error = p.error; content = p.content }
 
 -- what a call of `read` answers, and what it leaves, where it is handed a micropacket of a channel
 abbrev pub answer : Reader → Channel → List ℕ → Micropacket → Result Read Refusal
-answer reader c buffer p =
-    or_else (read_refusal reader (channel_number c) (type_of p.kind) p.tail p.error p.content (length buffer))
-    (read_answer reader (type_of p.kind) p.content)
+answer reader c buffer p = or_else (read_refusal reader (handed_on c p) (length buffer)) (read_answer reader (handed_on c p))
 
 abbrev pub next_reader : Reader → Channel → List ℕ → Micropacket → Reader
-next_reader reader c buffer p = reader_after reader (channel_number c) (type_of p.kind) p.tail p.error p.content (length buffer)
+next_reader reader c buffer p = reader_after reader (handed_on c p) (length buffer)
 
 abbrev pub next_bytes : Reader → Channel → List ℕ → Micropacket → List ℕ
-next_bytes reader c buffer p = buffer_after reader (channel_number c) (type_of p.kind) p.tail p.error p.content buffer
+next_bytes reader c buffer p = buffer_after reader (handed_on c p) buffer
 
 -- the same of micropackets handed in one after the other
 abbrev pub answers : Reader → Channel → List ℕ → List Micropacket → List (Result Read Refusal)
@@ -58,7 +60,7 @@ heading_of m =
     record {
       destination = m.destination;
       source = m.source;
-      ethertype = m.ether_type;
+      ether_type = m.ether_type;
       size = length m.payload;
     }
 
@@ -92,6 +94,5 @@ CutsAreMarked =
 -- refusals 12 to 15 drop the reader's Message, the others leave it
 abbrev pub RefusalsDrop : Type 0
 RefusalsDrop =
-    (s : Reader) (channel kind : ℕ) (tail error : Bool) (content : List ℕ) (room : ℕ) (e : Refusal)
-    → read_refusal s channel kind tail error content room ≡ Some e
-    → reader_after s channel kind tail error content room ≡ cond (nat_le 12 (number_of e)) (with_message s None) s
+    (s : Reader) (p : Handed) (room : ℕ) (e : Refusal)
+    → read_refusal s p room ≡ Some e → reader_after s p room ≡ cond (nat_le 12 (number_of e)) (with_message s None) s

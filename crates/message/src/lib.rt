@@ -5,11 +5,13 @@
 mod copying;
 mod heading;
 mod making;
+mod opening;
 mod reader;
 mod reading;
 #[cfg(test)]
 mod tests;
 
 pub use heading::Heading;
-pub use making::{header, longest, piece};
-pub use reader::{Read, Reader};
+pub use making::{IN_DATA, IN_HEADER, longest, piece};
+pub use opening::Opening;
+pub use reader::{Read, Reader, Taken};

@@ -1,6 +1,6 @@
 // Messages made and read back, and each refusal at its border.
-use crate::{Read, Reader, header, longest, piece};
-use frame::{Channel, Refusal};
+use crate::{Heading, Opening, Read, Reader, Taken, longest, piece};
+use frame::{Channel, Content, Refusal};
 use std::process::Abort;
 use std::test::Fail;
 
@@ -9,98 +9,78 @@ const DESTINATION: [u8; 6] = *b"\x0a\x0b\x0c\x0d\x0e\x0f";
 const SOURCE: [u8; 6] = *b"\x01\x02\x03\x04\x05\x06";
 
 // A Header of nine bytes of payload.
-const NINE: [u8; 32] = *b"\x0a\x0b\x0c\x0d\x0e\x0f\x01\x02\x03\x04\x05\x06\x00\x00\x00\x11\
+const NINE: Content = *b"\x0a\x0b\x0c\x0d\x0e\x0f\x01\x02\x03\x04\x05\x06\x00\x00\x00\x11\
     \xaa\xaa\x03\x00\x00\x00\x81\x81\x00\x11\x22\x33\x44\x55\x66\x77";
 
 // The same with another M_len.
-fn counting(m_len: u32) -> [u8; 32] {
-    let [a, b, c, d] = m_len.to_be_bytes();
+fn counting(m_len: u32) -> Content {
     let mut content = NINE;
-    content[12] = a;
-    content[13] = b;
-    content[14] = c;
-    content[15] = d;
+    content[12..16].copy_from_slice(&m_len.to_be_bytes());
     content
 }
 
-// The number of a refusal, and 0 where there is none.
-fn number(answer: Result<Read, Refusal>) -> u8 {
-    match answer {
-        Ok(_) => 0,
-        Err(refusal) => refusal.number(),
-    }
-}
-
-fn is_complete(answer: Result<Read, Refusal>, size: u64) -> bool {
-    match answer {
-        Ok(Read::Complete(heading)) => heading.size == size && heading.ethertype == 0x8181,
-        _ => false,
-    }
-}
-
-// Whether an answer says that more is to come: a Message of `size` bytes begins, or a piece was written at `at`.
-fn is_more(answer: Result<Read, Refusal>, size: u64, at: u64) -> bool {
-    match answer {
-        Ok(Read::Begins(heading)) => heading.size == size && at == 0,
-        Ok(Read::Piece { at: place, count }) => place == at && count == 32,
-        _ => false,
+// What its Header says of a Message of `size` bytes.
+fn heading(size: u64) -> Heading {
+    Heading {
+        destination: DESTINATION,
+        source: SOURCE,
+        ether_type: 0x8181,
+        size,
     }
 }
 
 // Bytes that tell where they stand.
-fn number_each(payload: &mut [u8]) {
+fn number_each(payload: &mut [u8]) -> Result<(), Fail> {
     for (i, byte) in payload.iter_mut().enumerate() {
-        *byte = (i % 251) as u8;
+        *byte = u8::try_from(i % 251)?;
     }
-}
-
-// The Data of a Message from `at` on, made and read back.
-fn follow(
-    rt: &impl Abort,
-    reader: &mut Reader,
-    payload: &[u8],
-    at: usize,
-    buffer: &mut [u8],
-) -> Result<(), Fail> {
-    let size = payload.len();
-    if at >= size {
-        return Ok(());
-    }
-    let left = size - at;
-    let content = piece(left as u64, &payload[at..at + left.min(32)])
-        .ok()
-        .ok_or("piece")?;
-    let answer = reader.read(0, 8, left <= 32, false, &content, buffer);
-    if left <= 32 {
-        assert!(rt; is_complete(answer, size as u64));
-        Ok(())
-    } else {
-        assert!(rt; is_more(answer, size as u64, at as u64));
-        Ok(())
-    }
+    Ok(())
 }
 
 // A Message, made and read back on channel 0.
 fn through(rt: &impl Abort, payload: &[u8], buffer: &mut [u8]) -> Result<(), Fail> {
-    let size = payload.len();
-    let mut reader = Reader::new(0).ok().ok_or("reader")?;
-    let content = header(
-        &DESTINATION,
-        &SOURCE,
-        0x8181,
-        size as u64,
-        &payload[0..size.min(8)],
-    )
-    .ok()
-    .ok_or("header")?;
-    let answer = reader.read(0, 9, size <= 8, false, &content, buffer);
+    let size = u64::try_from(payload.len())?;
+    let mut reader = Reader::new(0)?;
+    let opening = Opening {
+        destination: &DESTINATION,
+        source: &SOURCE,
+        ether_type: 0x8181,
+        total: size,
+        first: &payload[..payload.len().min(8)],
+    };
+    let answer = reader.read(
+        &Taken {
+            channel: 0,
+            kind: 9,
+            tail: size <= 8,
+            error: false,
+            content: &opening.header()?,
+        },
+        buffer,
+    );
     if size <= 8 {
-        assert!(rt; is_complete(answer, size as u64));
-    } else {
-        assert!(rt; is_more(answer, size as u64, 0));
+        assert_eq!(rt; answer, Ok(Read::Complete(heading(size))));
+        return Ok(());
     }
-    for i in 0..68usize {
-        follow(rt, &mut reader, payload, 8 + i * 32, buffer)?;
+    assert_eq!(rt; answer, Ok(Read::Begins(heading(size))));
+    for (at, bytes) in (8..size).step_by(32).zip(payload[8..].chunks(32)) {
+        let left = size.saturating_sub(at);
+        let answer = reader.read(
+            &Taken {
+                channel: 0,
+                kind: 8,
+                tail: left <= 32,
+                error: false,
+                content: &piece(left, bytes)?,
+            },
+            buffer,
+        );
+        let expected = if left <= 32 {
+            Read::Complete(heading(size))
+        } else {
+            Read::Piece { at, count: 32 }
+        };
+        assert_eq!(rt; answer, Ok(expected));
     }
     Ok(())
 }
@@ -108,7 +88,7 @@ fn through(rt: &impl Abort, payload: &[u8], buffer: &mut [u8]) -> Result<(), Fai
 // The same at a length: the payload stands in the buffer, and the rest of the buffer is as it was.
 fn at_length(rt: &impl Abort, size: usize) -> Result<(), Fail> {
     let mut payload = [0u8; 2184];
-    number_each(&mut payload);
+    number_each(&mut payload)?;
     let mut buffer = [0xEEu8; 2200];
     assert!(rt; size <= 2184);
     through(rt, &payload[0..size], &mut buffer)?;
@@ -122,54 +102,45 @@ fn lengths(rt: HostRuntime) -> Result<(), Fail> {
     for size in [0usize, 1, 7, 8, 9, 39, 40, 41, 71, 72, 73, 2183, 2184] {
         at_length(&rt, size)?;
     }
-    assert_eq!(rt;
-        header(&DESTINATION, &SOURCE, 0x8181, 9, &NINE[24..32]).ok(),
-        Some(NINE)
-    );
+    let opening = Opening {
+        destination: &DESTINATION,
+        source: &SOURCE,
+        ether_type: 0x8181,
+        total: 9,
+        first: &NINE[24..32],
+    };
+    assert_eq!(rt; opening.header(), Ok(NINE));
     Ok(())
+}
+
+// What a new reader says to a Header with an M_len, without TAIL.
+fn at_m_len(channel: u64, m_len: u64) -> Result<Option<Refusal>, Fail> {
+    let mut buffer = [0u8; 2184];
+    let header = Taken {
+        channel,
+        kind: 9,
+        tail: false,
+        error: false,
+        content: &counting(u32::try_from(m_len)?),
+    };
+    Ok(Reader::new(channel)?.read(&header, &mut buffer).err())
 }
 
 // A Header with the longest payload of a channel, and one byte more.
-fn at_limit(rt: &impl Abort, number_of: u64, channel: Channel) -> Result<(), Fail> {
-    let most = longest(channel);
-    let mut buffer = [0u8; 2184];
-    let mut reader = Reader::new(number_of).ok().ok_or("reader")?;
-    let fits = number(reader.read(
-        number_of,
-        9,
-        false,
-        false,
-        &counting((most + 8) as u32),
-        &mut buffer,
-    ));
-    assert_eq!(rt; fits, if most <= 2184 { 0 } else { 15 });
-    if most >= 4_294_967_287 {
-        return Ok(());
-    }
-    let mut reader = Reader::new(number_of).ok().ok_or("reader")?;
-    assert_eq!(rt;
-        number(reader.read(
-            number_of,
-            9,
-            false,
-            false,
-            &counting((most + 9) as u32),
-            &mut buffer,
-        )),
-        14
-    );
-    Ok(())
-}
-
 #[test]
 fn limits(rt: HostRuntime) -> Result<(), Fail> {
-    for (number_of, channel) in [
+    for (number, channel) in [
         (0u64, Channel::Vc0),
         (1, Channel::Vc1),
         (2, Channel::Vc2),
         (3, Channel::Vc3),
     ] {
-        at_limit(&rt, number_of, channel)?;
+        let most = longest(channel);
+        let fits = (most > 2184).then_some(Refusal::NoSpace);
+        assert_eq!(rt; at_m_len(number, most + 8)?, fits);
+        if most < 4_294_967_287 {
+            assert_eq!(rt; at_m_len(number, most + 9)?, Some(Refusal::BadHeader));
+        }
     }
     assert!(rt; Reader::new(4).is_err());
     Ok(())
@@ -178,14 +149,14 @@ fn limits(rt: HostRuntime) -> Result<(), Fail> {
 // Whether a Header is made with addresses of these lengths and a first piece of zeros.
 fn is_made(destination: usize, source: usize, total: u64, first: usize) -> bool {
     let zeros = [0u8; 9];
-    header(
-        &zeros[0..destination.min(9)],
-        &zeros[0..source.min(9)],
-        0,
+    let opening = Opening {
+        destination: &zeros[0..destination.min(9)],
+        source: &zeros[0..source.min(9)],
+        ether_type: 0,
         total,
-        &zeros[0..first.min(9)],
-    )
-    .is_ok()
+        first: &zeros[0..first.min(9)],
+    };
+    opening.header().is_ok()
 }
 
 #[test]
@@ -218,120 +189,102 @@ fn sizes(rt: HostRuntime) {
     }
 }
 
-// What a new reader of channel 1, with room for nine bytes, says to a micropacket.
-fn first_answer(
-    channel: u64,
-    kind: u64,
-    tail: bool,
-    error: bool,
-    content: &[u8],
-) -> Result<u8, Fail> {
-    let mut buffer = [0u8; 9];
-    let mut reader = Reader::new(1).ok().ok_or("reader")?;
-    Ok(number(reader.read(channel, kind, tail, error, content, &mut buffer)))
+// What a new reader of channel 1, with room for nine bytes, refuses a micropacket by.
+fn first_refusal(taken: &Taken) -> Result<Option<Refusal>, Fail> {
+    Ok(Reader::new(1)?.read(taken, &mut [0; 9]).err())
 }
 
 #[test]
 fn outside_a_message(rt: HostRuntime) -> Result<(), Fail> {
     for (channel, kind, tail, error, m_len, expected) in [
-        (4u64, 9u64, false, true, 17u32, 1u8),
-        (1, 16, false, true, 17, 6),
-        (2, 9, false, true, 17, 12),
-        (2, 9, false, false, 7, 13),
-        (1, 9, true, false, 7, 14),
-        (1, 9, true, false, 8, 0),
-        (1, 9, true, false, 16, 0),
-        (1, 9, false, false, 16, 13),
-        (1, 9, false, false, 17, 0),
-        (1, 9, true, false, 17, 13),
-        (1, 9, true, false, 18, 15),
-        (1, 15, true, false, 0, 0),
-        (1, 15, false, false, 0, 13),
+        (4u64, 9u64, false, true, 17u32, Some(Refusal::BadChannel)),
+        (1, 16, false, true, 17, Some(Refusal::BadSize)),
+        (2, 9, false, true, 17, Some(Refusal::Marked)),
+        (2, 9, false, false, 7, Some(Refusal::OutOfStep)),
+        (1, 9, true, false, 7, Some(Refusal::BadHeader)),
+        (1, 9, true, false, 8, None),
+        (1, 9, true, false, 16, None),
+        (1, 9, false, false, 16, Some(Refusal::OutOfStep)),
+        (1, 9, false, false, 17, None),
+        (1, 9, true, false, 17, Some(Refusal::OutOfStep)),
+        (1, 9, true, false, 18, Some(Refusal::NoSpace)),
+        (1, 15, true, false, 0, None),
+        (1, 15, false, false, 0, Some(Refusal::OutOfStep)),
     ] {
-        assert_eq!(rt;
-            first_answer(channel, kind, tail, error, &counting(m_len))?,
-            expected
-        );
-    }
-    for kind in [0u64, 1, 2, 3, 4, 5, 6, 7, 8, 10, 11, 12, 13, 14] {
-        assert_eq!(rt; first_answer(1, kind, true, false, &NINE)?, 13);
-    }
-    let mut spoiled = NINE;
-    spoiled[21] = 1;
-    assert_eq!(rt; first_answer(1, 9, false, false, &spoiled)?, 14);
-    assert_eq!(rt; first_answer(1, 9, false, true, &NINE[0..31])?, 6);
-    Ok(())
-}
-
-// What a reader of channel 1 with a Message of nine bytes under way says to a micropacket, with room for as many bytes.
-fn second_answer(
-    rt: &impl Abort,
-    reader: &mut Reader,
-    channel: u64,
-    kind: u64,
-    tail: bool,
-    error: bool,
-    buffer: &mut [u8],
-    room: usize,
-) -> u8 {
-    assert!(rt; is_more(reader.read(1, 9, false, false, &NINE, buffer), 9, 0));
-    assert!(rt; room <= buffer.len());
-    number(reader.read(
-        channel,
-        kind,
-        tail,
-        error,
-        &[0x88; 32],
-        &mut buffer[0..room],
-    ))
-}
-
-// The same, and then the Data that was due: the refusals 12 to 15 drop the Message, 1 and 6 leave it, and none writes.
-fn next_answer(
-    rt: &impl Abort,
-    channel: u64,
-    kind: u64,
-    tail: bool,
-    error: bool,
-    room: usize,
-    expected: u8,
-) -> Result<(), Fail> {
-    let mut buffer = [0u8; 9];
-    let mut reader = Reader::new(1).ok().ok_or("reader")?;
-    assert_eq!(rt;
-        second_answer(
-            rt,
-            &mut reader,
+        let taken = Taken {
             channel,
             kind,
             tail,
             error,
-            &mut buffer,
-            room
-        ),
-        expected
-    );
+            content: &counting(m_len),
+        };
+        assert_eq!(rt; first_refusal(&taken)?, expected);
+    }
+    for kind in [0u64, 1, 2, 3, 4, 5, 6, 7, 8, 10, 11, 12, 13, 14] {
+        let taken = Taken {
+            channel: 1,
+            kind,
+            tail: true,
+            error: false,
+            content: &NINE,
+        };
+        assert_eq!(rt; first_refusal(&taken)?, Some(Refusal::OutOfStep));
+    }
+    let mut spoiled = NINE;
+    spoiled[21] = 1;
+    for (error, content, expected) in [
+        (false, &spoiled[..], Refusal::BadHeader),
+        (true, &NINE[0..31], Refusal::BadSize),
+    ] {
+        let taken = Taken {
+            channel: 1,
+            kind: 9,
+            tail: false,
+            error,
+            content,
+        };
+        assert_eq!(rt; first_refusal(&taken)?, Some(expected));
+    }
+    Ok(())
+}
+
+// What a reader of channel 1 with a Message of nine bytes under way refuses a micropacket by, with room for `room` bytes,
+// and then the Data that was due: the refusals 12 to 15 drop the Message, 1 and 6 leave it, and none writes.
+fn second_refusal(
+    rt: &impl Abort,
+    taken: &Taken,
+    room: usize,
+    expected: Option<Refusal>,
+) -> Result<(), Fail> {
+    let mut buffer = [0u8; 9];
+    let mut reader = Reader::new(1)?;
+    let header = Taken {
+        channel: 1,
+        kind: 9,
+        tail: false,
+        error: false,
+        content: &NINE,
+    };
     assert_eq!(rt;
-        buffer,
-        [
-            0,
-            0x11,
-            0x22,
-            0x33,
-            0x44,
-            0x55,
-            0x66,
-            0x77,
-            if expected == 0 { 0x88 } else { 0 },
-        ]
+        reader.read(&header, &mut buffer),
+        Ok(Read::Begins(heading(9)))
     );
-    let due = number(reader.read(1, 8, true, false, &[0x88; 32], &mut buffer));
+    assert!(rt; room <= 9);
+    assert_eq!(rt; reader.read(taken, &mut buffer[0..room]).err(), expected);
+    let last = if expected.is_none() { 0x88 } else { 0 };
+    assert_eq!(rt; buffer, [0, 0x11, 0x22, 0x33, 0x44, 0x55, 0x66, 0x77, last]);
+    let due = Taken {
+        channel: 1,
+        kind: 8,
+        tail: true,
+        error: false,
+        content: &[0x88; 32],
+    };
     assert_eq!(rt;
-        due,
-        if expected == 1 || expected == 6 {
-            0
-        } else {
-            13
+        reader.read(&due, &mut buffer).err(),
+        match expected {
+            Some(Refusal::BadChannel | Refusal::BadSize) => None,
+            _ => Some(Refusal::OutOfStep),
         }
     );
     Ok(())
@@ -340,19 +293,26 @@ fn next_answer(
 #[test]
 fn inside_a_message(rt: HostRuntime) -> Result<(), Fail> {
     for (channel, kind, tail, error, room, expected) in [
-        (4u64, 8u64, true, true, 9usize, 1u8),
-        (1, 16, true, true, 9, 6),
-        (0, 8, true, true, 9, 12),
-        (0, 8, true, false, 9, 13),
-        (1, 9, true, false, 9, 13),
-        (1, 15, true, false, 9, 13),
-        (1, 10, true, false, 9, 13),
-        (1, 8, false, false, 8, 15),
-        (1, 8, false, false, 9, 13),
-        (1, 8, true, false, 9, 0),
-        (1, 12, true, false, 9, 0),
+        (4u64, 8u64, true, true, 9usize, Some(Refusal::BadChannel)),
+        (1, 16, true, true, 9, Some(Refusal::BadSize)),
+        (0, 8, true, true, 9, Some(Refusal::Marked)),
+        (0, 8, true, false, 9, Some(Refusal::OutOfStep)),
+        (1, 9, true, false, 9, Some(Refusal::OutOfStep)),
+        (1, 15, true, false, 9, Some(Refusal::OutOfStep)),
+        (1, 10, true, false, 9, Some(Refusal::OutOfStep)),
+        (1, 8, false, false, 8, Some(Refusal::NoSpace)),
+        (1, 8, false, false, 9, Some(Refusal::OutOfStep)),
+        (1, 8, true, false, 9, None),
+        (1, 12, true, false, 9, None),
     ] {
-        next_answer(&rt, channel, kind, tail, error, room, expected)?;
+        let taken = Taken {
+            channel,
+            kind,
+            tail,
+            error,
+            content: &[0x88; 32],
+        };
+        second_refusal(&rt, &taken, room, expected)?;
     }
     Ok(())
 }

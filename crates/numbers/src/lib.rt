@@ -2,9 +2,11 @@
 #![tactic(auto)]
 
 mod acknowledgement;
-mod round;
+mod counting;
 mod window;
 
-pub use acknowledgement::freed;
-pub use round::{due_after, is_due, next};
-pub use window::window_fits;
+// Numbers that come round: 0 and up, below `modulus`.
+#[derive(Clone, Copy)]
+pub struct Round {
+    pub modulus: u32,
+}

@@ -2,33 +2,24 @@
 ghost use Rattle.std.specs.Prelude.{◌≡◌, ◌-◌, ◌≤◌, min, not, [], ◌∷◌, ◌++◌, length, drop, if◌then◌else◌, ◌==◌, nat_lt};
 ghost use Rattle.std.specs.Option.{option_map};
 ghost use Rattle.std.specs.List.{slice_get};
-ghost use Rattle.ring.specs.Items.{ring_items, ring_cap, ring_past, start_of, place_of};
+ghost use Rattle.ring.specs.Held.{place_of};
+ghost use Rattle.ring.specs.Items.{queue_of, ring_items, ring_cap};
 
 use super::Ring;
 
-// The index `i` after `first`, going on from 0 at `size`.
-fn place(size: usize, first: usize, i: usize) -> usize
-    requires { (first ≤ size - 1) × (i ≤ size) }
-    ensures value { result ≡ place_of size first i }
-    ensures bound { result ≤ size - 1 }
-{
-    let room = size - first;
-    if i < room { first + i } else { i - room }
-}
-
+#[tactic(auto, unfolding(crate::specs::Items::queue_of))]
 impl<'a, T: Copy> Ring<'a, T> {
     // An empty ring over the first elements of `slots`: it uses at most as many as it is told.
     pub fn new(slots: &'a mut [T], at_most: usize) -> Ring<'a, T>
-        ensures items { ring_items result ≡ [] }
-        ensures bound { ring_cap result ≡ min at_most (length slots.old) }
+        ensures queue { queue_of result ≡ record { items = []; room = min at_most (length slots.old); past = drop at_most slots.old; loan = slots.entry.ghost_name } }
         ensures area { result.slots.now ≡ slots.old }
-        ensures lent { result.slots.ghost_name ≡ slots.entry.ghost_name }
     {
+        let size = at_most.min(slots.len());
         Ring {
             slots,
             first: 0,
             len: 0,
-            size: at_most,
+            size,
         }
     }
 
@@ -37,7 +28,7 @@ impl<'a, T: Copy> Ring<'a, T> {
         ensures value { result ≡ ring_cap self.now }
         ensures within { result ≤ length self.now.slots.now }
     {
-        self.size.min(self.slots.len())
+        self.size
     }
 
     // How many it holds.
@@ -45,7 +36,7 @@ impl<'a, T: Copy> Ring<'a, T> {
         ensures value { result ≡ length (ring_items self.now) }
         ensures bound { result ≤ ring_cap self.now }
     {
-        self.len.min(self.capacity())
+        self.len
     }
 
     // Whether it holds nothing.
@@ -62,26 +53,25 @@ impl<'a, T: Copy> Ring<'a, T> {
         self.len() >= self.capacity()
     }
 
-    // Where the oldest lies.
-    fn start(&self) -> usize
-        ensures value { result ≡ start_of self.now.first (ring_cap self.now) }
-        ensures bound { result ≤ ring_cap self.now - 1 }
+    // The index `i` after the oldest, going on from 0 at the end of what is used.
+    #[tactic(auto, unfolding(crate::specs::Held::place_of))]
+    fn place(&self, i: usize) -> usize
+        requires { i ≤ self.now.size }
+        ensures value { result ≡ place_of self.now.size self.now.first i }
+        ensures bound { result ≤ self.now.size - 1 }
     {
-        if self.first < self.capacity() {
-            self.first
-        } else {
-            0
-        }
+        let room = self.size - self.first;
+        if i < room { self.first + i } else { i - room }
     }
 
     // The element `i` after the oldest, to look at.
     pub fn get_ref(&self, i: usize) -> Option<&T>
         ensures { option_map (λ x. x.now) result ≡ slice_get (ring_items self.now) i }
     {
-        if i < self.len() {
-            let p = place(self.capacity(), self.start(), i);
+        // An if: what `then` would lend from a closure is not known to be the element at `i`.
+        if i < self.len {
             let slots: &[T] = &*self.slots;
-            Some(&slots[p])
+            Some(&slots[self.place(i)])
         } else {
             None
         }
@@ -91,28 +81,21 @@ impl<'a, T: Copy> Ring<'a, T> {
     pub fn get(&self, i: usize) -> Option<T>
         ensures { result ≡ slice_get (ring_items self.now) i }
     {
-        match self.get_ref(i) {
-            Some(x) => Some(*x),
-            None => None,
-        }
+        self.get_ref(i).copied()
     }
 
     // Adds `x` behind all the others, where there is room, and answers whether there was.
+    // A bool, since the caller keeps a copy of `x`: an error with the element in it would bring nothing back.
     pub fn push_back(&mut self, x: T) -> bool
         ensures test { result ≡ nat_lt (length (ring_items self.old)) (ring_cap self.old) }
-        ensures items { ring_items self.new ≡ (if result then ring_items self.old ++ x ∷ [] else ring_items self.old) }
-        ensures same { ring_cap self.new ≡ ring_cap self.old }
-        ensures past { ring_past self.new ≡ ring_past self.old }
-        ensures lent { self.new.slots.ghost_name ≡ self.old.slots.ghost_name }
+        ensures queue { queue_of self.new ≡ record (queue_of self.old) { items = if result then ring_items self.old ++ x ∷ [] else ring_items self.old } }
     {
-        let size = self.capacity();
-        let len = self.len();
-        if len < size {
-            let first = self.start();
-            let p = place(size, first, len);
-            self.slots[p] = x;
-            self.first = first;
-            self.len = len + 1;
+        if self.len < self.size {
+            // Asked for first, since the slots are lent to be written.
+            let len = self.len;
+            let at = self.place(len);
+            self.slots[at] = x;
+            self.len += 1;
             true
         } else {
             false
@@ -121,24 +104,17 @@ impl<'a, T: Copy> Ring<'a, T> {
 
     // Drops the `n` oldest, or all where there are fewer.
     pub fn drop_front(&mut self, n: usize)
-        ensures items { ring_items self.new ≡ drop n (ring_items self.old) }
-        ensures same { ring_cap self.new ≡ ring_cap self.old }
-        ensures past { ring_past self.new ≡ ring_past self.old }
-        ensures lent { self.new.slots.ghost_name ≡ self.old.slots.ghost_name }
+        ensures { queue_of self.new ≡ record (queue_of self.old) { items = drop n (ring_items self.old) } }
     {
-        let len = self.len();
-        let k = n.min(len);
-        self.first = place(self.capacity(), self.start(), k);
-        self.len = len - k;
+        let k = n.min(self.len);
+        self.first = self.place(k);
+        self.len -= k;
     }
 
     // Takes the oldest out.
     pub fn pop_front(&mut self) -> Option<T>
         ensures value { result ≡ slice_get (ring_items self.old) 0 }
-        ensures items { ring_items self.new ≡ drop 1 (ring_items self.old) }
-        ensures same { ring_cap self.new ≡ ring_cap self.old }
-        ensures past { ring_past self.new ≡ ring_past self.old }
-        ensures lent { self.new.slots.ghost_name ≡ self.old.slots.ghost_name }
+        ensures queue { queue_of self.new ≡ record (queue_of self.old) { items = drop 1 (ring_items self.old) } }
     {
         let oldest = self.get(0);
         self.drop_front(1);
@@ -147,10 +123,7 @@ impl<'a, T: Copy> Ring<'a, T> {
 
     // Drops all.
     pub fn clear(&mut self)
-        ensures items { ring_items self.new ≡ [] }
-        ensures same { ring_cap self.new ≡ ring_cap self.old }
-        ensures past { ring_past self.new ≡ ring_past self.old }
-        ensures lent { self.new.slots.ghost_name ≡ self.old.slots.ghost_name }
+        ensures { queue_of self.new ≡ record (queue_of self.old) { items = [] } }
     {
         self.drop_front(self.len());
     }

@@ -1,4 +1,5 @@
-pub mod Looked
+pub mod Words
 pub mod Fated
 pub mod Printed
 pub mod MadeWire
+pub mod Bits

@@ -1,6 +1,6 @@
 -- The wire w that a sheet calls by itself.
-use Rattle.std.specs.Prelude.{ℕ, Bool, true, false, cond, List, [], length, take, drop, replicate, Some, None, vec_items, Option, ◌==◌, slice_index_or}
-use Rattle.frame.specs.Codec.{frame_refusal}
+use Rattle.std.specs.Prelude.{ℕ, Bool, true, false, cond, List, [], length, take, drop, replicate, Some, None, Ok, Err, vec_items, Option, Result, ◌==◌, slice_index_or}
+use Rattle.frame.specs.Codec.{or_else, frame_refusal}
 use Rattle.wire.specs.declared.any.AnyWire.{AnyWire}
 use Rattle.wire.specs.declared.any.AnyWire.TheVariants.{Plain, Line}
 use Rattle.wire.specs.declared.fate.Fate.{Fate}
@@ -11,12 +11,14 @@ use Rattle.wire.specs.Kept.{keeps, gained}
 use Rattle.wire.specs.Lines.{line_room}
 use Rattle.wire.specs.Plains.{plain_room}
 use Rattle.sheet.specs.declared.outcome.Outcome.{Outcome}
-use Rattle.sheet.specs.declared.outcome.Outcome.TheVariants.{Silent, TooLate, Put, Next, Nothing}
+use Rattle.sheet.specs.declared.outcome.Outcome.TheVariants.{Put, Next, Nothing}
 use Rattle.sheet.specs.declared.request.Setup.{Setup}
 use Rattle.sheet.specs.declared.request.WireKind.{WireKind}
 use Rattle.sheet.specs.declared.request.WireKind.TheVariants as kinds
+use Rattle.sheet.specs.declared.trouble.Trouble.{Trouble}
+use Rattle.sheet.specs.declared.trouble.Trouble.TheVariants.{TooLate}
 use Rattle.sheet.specs.Asks.{Ask, shows, wire_is, fates_are, puts, nexts}
-use Rattle.sheet.specs.Lines.{refused_or}
+use Rattle.sheet.specs.Lines.{unless_refused}
 
 -- how many frames it can hold, the frames under way, oldest first, and the fates that are left
 pub record WireState : Type 0 where
@@ -44,8 +46,8 @@ after_put s frame =
     (record { room = s.room; frames = carried_on s.room s.frames (struck (next_fate s.fates) frame); fates = drop 1 s.fates })
     s
 
-abbrev pub put_outcome : List ℕ → Outcome
-put_outcome frame = refused_or (frame_refusal (length frame)) Put
+abbrev pub put_outcome : List ℕ → Result Outcome Trouble
+put_outcome frame = unless_refused (or_else (frame_refusal (length frame)) (tt {0})) (λ _. Put)
 
 -- the wire after the oldest frame was asked for, and what came
 abbrev pub after_next : WireState → WireState
@@ -62,8 +64,7 @@ pub record World : Type 0 where
 -- how many frames a kind of wire can hold
 abbrev pub room_of : WireKind → ℕ
 room_of (kinds.Plain n) = n
-room_of kinds.Wide = 16
-room_of kinds.Narrow = 16
+room_of (kinds.Line w) = 16
 
 -- a wire as it is declared: nothing under way, and 64 fates at most
 abbrev pub declared_wire : WireKind → List Fate → WireState
@@ -80,45 +81,56 @@ declared s = record { begun = false; wire = s }
 abbrev pub called : WireState → World
 called s = record { begun = true; wire = s }
 
--- the world after a line that asks for something
-abbrev pub after_ask : World → Ask → World
-after_ask world (shows o) = world
-after_ask world (wire_is kind) =
+-- the world after a line that asks for something; one that is in trouble changes nothing
+abbrev pub after_ask : World → Result Ask Trouble → World
+after_ask world (Err e) = world
+after_ask world (Ok (shows o)) = world
+after_ask world (Ok (wire_is kind)) =
     cond world.begun world (declared (record { room = room_of kind; frames = world.wire.frames; fates = world.wire.fates }))
-after_ask world (fates_are fates) =
+after_ask world (Ok (fates_are fates)) =
     cond world.begun world (declared (record { room = world.wire.room; frames = world.wire.frames; fates = take 64 fates }))
-after_ask world (puts frame) = called (after_put world.wire frame)
-after_ask world nexts = called (after_next world.wire)
+after_ask world (Ok (puts frame)) = called (after_put world.wire frame)
+after_ask world (Ok nexts) = called (after_next world.wire)
 
--- what such a line does; a declaration that comes behind a call is too late
-abbrev pub outcome_in : World → Ask → Outcome
-outcome_in world (shows o) = o
-outcome_in world (wire_is kind) = cond world.begun TooLate Silent
-outcome_in world (fates_are fates) = cond world.begun TooLate Silent
-outcome_in world (puts frame) = put_outcome frame
-outcome_in world nexts = next_outcome world.wire
+-- what a line answers: an outcome to show, nothing to show, or trouble
+abbrev pub Answer : Type 0
+Answer = Result (Option Outcome) Trouble
+
+-- what a call shows
+abbrev pub showing : Result Outcome Trouble → Answer
+showing (Ok o) = Ok (Some o)
+showing (Err e) = Err e
+
+-- what such a line answers; a declaration that comes behind a call is too late
+abbrev pub outcome_in : World → Result Ask Trouble → Answer
+outcome_in world (Err e) = Err e
+outcome_in world (Ok (shows o)) = Ok o
+outcome_in world (Ok (wire_is kind)) = cond world.begun (Err TooLate) (Ok None)
+outcome_in world (Ok (fates_are fates)) = cond world.begun (Err TooLate) (Ok None)
+outcome_in world (Ok (puts frame)) = showing (put_outcome frame)
+outcome_in world (Ok nexts) = Ok (Some (next_outcome world.wire))
 
 -- the wire that the declarations so far say
 abbrev pub setup_wire : Setup → WireState
 setup_wire s = declared_wire s.wire (vec_items s.fates)
 
 -- whether a line calls something
-abbrev pub is_call : Ask → Bool
-is_call (shows o) = false
-is_call (wire_is kind) = false
-is_call (fates_are fates) = false
-is_call (puts frame) = true
-is_call nexts = true
+abbrev pub is_call : Result Ask Trouble → Bool
+is_call (Err e) = false
+is_call (Ok (shows o)) = false
+is_call (Ok (wire_is kind)) = false
+is_call (Ok (fates_are fates)) = false
+is_call (Ok (puts frame)) = true
+is_call (Ok nexts) = true
 
--- what a line does before anything was called, unless it is a call
-abbrev pub before_call : World → Ask → Option Outcome
+-- what a line answers before anything was called, unless it is a call
+abbrev pub before_call : World → Result Ask Trouble → Option Answer
 before_call world ask = cond (is_call ask) None (Some (outcome_in world ask))
 
-abbrev pub setup_after : World → Ask → World
+abbrev pub setup_after : World → Result Ask Trouble → World
 setup_after world ask = cond (is_call ask) world (after_ask world ask)
 
 -- how many places for whole frames a kind of wire is lent
 abbrev pub places_of : WireKind → ℕ
 places_of (kinds.Plain n) = n
-places_of kinds.Wide = 0
-places_of kinds.Narrow = 0
+places_of (kinds.Line w) = 0

@@ -1,42 +1,48 @@
 -- What each line of a sheet does.
-use Rattle.std.specs.Prelude.{ℕ, ◌-◌, ◌^◌, Bool, cond, ◌||◌, List, [], length, take, ℤ, Some, None, Ok, Err, codes, Option, Result, ◌==◌, slice_index, slice_index_or}
+use Rattle.std.specs.Prelude.{◌≡◌, ℕ, ◌-◌, ◌^◌, Bool, cond, ◌||◌, List, [], length, ℤ, Some, None, Ok, Err, codes, Option, Result, ◌==◌, slice_index, slice_index_or}
+use Rattle.std.specs.List.{list_all}
 use Rattle.std.specs.Str.{bytes_eq}
 use Rattle.frame.specs.declared.fields.Numbers.{Numbers}
 use Rattle.frame.specs.declared.refusal.Refusal.{Refusal}
-use Rattle.frame.specs.Checks.{syndrome_of}
-use Rattle.frame.specs.Codec.{numbers_refusal, fields_from, emit_refusal, frame_refusal}
-use Rattle.frame.specs.Layout.{frame_of, fields_of}
+use Rattle.frame.specs.Codec.{or_else, numbers_refusal, fields_from, emit_refusal}
+use Rattle.frame.specs.Layout.{frame_of}
 use Rattle.frame.specs.declared.refusal.Refusal.TheVariants.{BadSize}
 use Rattle.line.specs.declared.width.Width.{Width}
 use Rattle.line.specs.declared.width.Width.TheVariants.{Wide, Narrow}
 use Rattle.line.specs.Code.{coded, decoding, is_word}
-use Rattle.line.specs.Groups.{all, fresh, coded_groups}
+use Rattle.line.specs.Groups.{fresh, coded_groups}
 use Rattle.line.specs.Groups as groups
 use Rattle.line.specs.Tables.{standard_rows}
 use Rattle.text.specs.Hex.{bytes_of, hex4_of}
 use Rattle.text.specs.Numbers.{number_of, signed_of, bit_of}
+use Rattle.frame.specs.Parts.{taken_apart}
 use Rattle.sheet.specs.declared.outcome.Outcome.{Outcome}
-use Rattle.sheet.specs.declared.outcome.Outcome.TheVariants.{NotUnderstood, Refused, Frame, Parts, Word, Code, Groups}
-use Rattle.sheet.specs.declared.outcome.FrameParts.{FrameParts}
-use Rattle.sheet.specs.declared.verb.Verb.{Verb}
-use Rattle.sheet.specs.declared.verb.Verb.TheVariants as verbs
+use Rattle.sheet.specs.declared.outcome.Outcome.TheVariants.{Frame, Apart, Word, Code, Groups}
+use Rattle.sheet.specs.declared.outcome.CodedWord.{CodedWord}
+use Rattle.sheet.specs.declared.trouble.Trouble.{Trouble}
+use Rattle.sheet.specs.declared.trouble.Trouble.TheVariants.{NotUnderstood, TooLate, Refused, OutOfMemory}
+
+-- a result is as told, unless memory ran out
+abbrev pub Gives : {X : Type 0} → Result X Trouble → Result X Trouble → Type 0
+Gives (Ok x) told = Ok x ≡ told
+Gives (Err NotUnderstood) told = Err NotUnderstood ≡ told
+Gives (Err TooLate) told = Err TooLate ≡ told
+Gives (Err (Refused r)) told = Err (Refused r) ≡ told
+Gives (Err (OutOfMemory _)) told = Unit {0}
+
+-- a value that was read, or else the line is not understood
+abbrev pub understood : {A B : Type 0} → Option A → (A → Result B Trouble) → Result B Trouble
+understood None f = Err NotUnderstood
+understood (Some x) f = f x
+
+-- what comes of a value, unless it was refused
+abbrev pub unless_refused : {A B : Type 0} → Result A Refusal → (A → B) → Result B Trouble
+unless_refused (Ok x) f = Ok (f x)
+unless_refused (Err e) f = Err (Refused e)
 
 -- whether a word is this text
 unfoldable pub says : List ℕ → List ℕ → Bool
 says word text = bytes_eq word text
-
--- what a line's first word asks for
-abbrev pub verb_of : List ℕ → Verb
-verb_of word =
-    cond (says word (codes "frame")) verbs.Frame
-    (cond (says word (codes "fields")) verbs.Fields
-    (cond (says word (codes "code")) verbs.Code
-    (cond (says word (codes "decode")) verbs.Decode
-    (cond (says word (codes "lines")) verbs.Lines
-    (cond (says word (codes "unlines")) verbs.Unlines
-    (cond (says word (codes "wire")) verbs.Wire
-    (cond (says word (codes "fates")) verbs.Fates
-    (cond (says word (codes "w")) verbs.CallW verbs.Unknown))))))))
 
 -- a width by its word
 abbrev pub width_in : List ℕ → Option Width
@@ -70,89 +76,65 @@ numbers_in ws =
     then_read (hex4_of (word_at ws 10)) (λ lcrc.
     Some (record { vc = vc; kind = kind; tail = tail; error = error; vcr = vcr; cr = cr; rseq = rseq; tseq = tseq; ecrc = ecrc; lcrc = lcrc })))))))))))
 
--- the outcome, unless a refusal stands in its place
-abbrev pub refused_or : Option Refusal → Outcome → Outcome
-refused_or None o = o
-refused_or (Some e) o = Refused e
+-- the first refusal of two
+abbrev pub first_refusal : Option Refusal → Option Refusal → Option Refusal
+first_refusal None q = q
+first_refusal (Some e) q = Some e
 
 -- numbers and data to a frame: first the numbers, then the sizes
-abbrev pub made_frame : Numbers → List ℕ → Outcome
+abbrev pub made_frame : Numbers → List ℕ → Result (List ℕ) Refusal
 made_frame n content =
-    refused_or (numbers_refusal n)
-    (refused_or (emit_refusal (fields_from n) (length content) 40) (Frame (frame_of (fields_from n) content)))
+    or_else (first_refusal (numbers_refusal n) (emit_refusal (fields_from n) (length content) 40)) (frame_of (fields_from n) content)
 
--- a line `frame` whose words are read
-abbrev pub frame_outcome : Option Numbers → Option (List ℕ) → Outcome
-frame_outcome None content = NotUnderstood
-frame_outcome (Some n) None = NotUnderstood
-frame_outcome (Some n) (Some content) = made_frame n content
-
-unfoldable pub frame_line : List (List ℕ) → Outcome
-frame_line ws = cond (length ws == 12) (frame_outcome (numbers_in ws) (bytes_of (word_at ws 11))) NotUnderstood
+unfoldable pub frame_line : List (List ℕ) → Result Outcome Trouble
+frame_line ws =
+    cond (length ws == 12) (understood (numbers_in ws) (λ n. understood (bytes_of (word_at ws 11)) (λ content. unless_refused (made_frame n content) Frame))) (Err NotUnderstood)
 
 -- bytes taken apart as a frame
-abbrev pub parts_in : List ℕ → FrameParts
-parts_in bytes = record { fields = fields_of bytes; content = take 32 bytes; syndrome = syndrome_of bytes }
+abbrev pub parts_of : List ℕ → Result Outcome Trouble
+parts_of bytes = unless_refused (taken_apart bytes) Apart
 
-abbrev pub parts_of : List ℕ → Outcome
-parts_of bytes = refused_or (frame_refusal (length bytes)) (Parts (parts_in bytes))
-
--- a line `fields` whose word is read
-abbrev pub fields_outcome : Option (List ℕ) → Outcome
-fields_outcome None = NotUnderstood
-fields_outcome (Some bytes) = parts_of bytes
-
-unfoldable pub fields_line : List (List ℕ) → Outcome
-fields_line ws = cond (length ws == 2) (fields_outcome (bytes_of (word_at ws 1))) NotUnderstood
+unfoldable pub fields_line : List (List ℕ) → Result Outcome Trouble
+fields_line ws = cond (length ws == 2) (understood (bytes_of (word_at ws 1)) parts_of) (Err NotUnderstood)
 
 -- a group that is coded
-abbrev pub word_outcome : Result (ℕ × ℤ) Refusal → Outcome
-word_outcome (Ok p) = Word (record { word = p.0; count = p.1 })
-word_outcome (Err e) = Refused e
+abbrev pub word_of : Result (ℕ × ℤ) Refusal → Result CodedWord Refusal
+word_of (Ok p) = Ok (record { word = p.0; count = p.1 })
+word_of (Err e) = Err e
 
-abbrev pub code_outcome : Option ℕ → Option ℤ → Outcome
-code_outcome None count = NotUnderstood
-code_outcome (Some n) None = NotUnderstood
-code_outcome (Some n) (Some count) = word_outcome (coded standard_rows n count)
+unfoldable pub code_line : List (List ℕ) → Result Outcome Trouble
+code_line ws =
+    cond (length ws == 3)
+    (understood (number (word_at ws 1)) (λ code. understood (signed_of (word_at ws 2)) (λ count. unless_refused (word_of (coded standard_rows code count)) Word)))
+    (Err NotUnderstood)
 
-unfoldable pub code_line : List (List ℕ) → Outcome
-code_line ws = cond (length ws == 3) (code_outcome (number (word_at ws 1)) (signed_of (word_at ws 2))) NotUnderstood
+-- the code of a group
+abbrev pub code_of : ℕ → Result Outcome Trouble
+code_of group = unless_refused (decoding group) Code
 
--- a group that is decoded
-abbrev pub code_of : Result ℕ Refusal → Outcome
-code_of (Ok code) = Code code
-code_of (Err e) = Refused e
-
-abbrev pub decode_outcome : Option ℕ → Outcome
-decode_outcome None = NotUnderstood
-decode_outcome (Some n) = code_of (decoding n)
-
-unfoldable pub decode_line : List (List ℕ) → Outcome
-decode_line ws = cond (length ws == 2) (decode_outcome (number (word_at ws 1))) NotUnderstood
+unfoldable pub decode_line : List (List ℕ) → Result Outcome Trouble
+decode_line ws = cond (length ws == 2) (understood (number (word_at ws 1)) code_of) (Err NotUnderstood)
 
 -- a frame to its groups, all counts 0 before
-abbrev pub groups_of : Width → List ℕ → Outcome
-groups_of w bytes = cond (length bytes == 40) (Groups (coded_groups (fresh w) bytes)) (Refused BadSize)
+abbrev pub groups_of : Width → List ℕ → Result Outcome Trouble
+groups_of w bytes = cond (length bytes == 40) (Ok (Groups (coded_groups (fresh w) bytes))) (Err (Refused BadSize))
 
-abbrev pub lines_outcome : Option Width → Option (List ℕ) → Outcome
-lines_outcome None bytes = NotUnderstood
-lines_outcome (Some w) None = NotUnderstood
-lines_outcome (Some w) (Some bytes) = groups_of w bytes
-
-unfoldable pub lines_line : List (List ℕ) → Outcome
-lines_line ws = cond (length ws == 3) (lines_outcome (width_in (word_at ws 1)) (bytes_of (word_at ws 2))) NotUnderstood
+unfoldable pub lines_line : List (List ℕ) → Result Outcome Trouble
+lines_line ws =
+    cond (length ws == 3)
+    (understood (width_in (word_at ws 1)) (λ w. understood (bytes_of (word_at ws 2)) (groups_of w)))
+    (Err NotUnderstood)
 
 -- 80 groups to their frame
-abbrev pub frame_in : Width → List ℕ → Outcome
-frame_in w bytes = cond (length bytes == 80) (cond (all is_word bytes) (Frame (groups.frame_of w bytes)) (Refused BadSize)) (Refused BadSize)
+abbrev pub frame_in : Width → List ℕ → Result Outcome Trouble
+frame_in w bytes =
+    cond (length bytes == 80) (cond (list_all is_word bytes) (Ok (Frame (groups.frame_of w bytes))) (Err (Refused BadSize))) (Err (Refused BadSize))
 
-abbrev pub unlines_outcome : Option Width → Option (List ℕ) → Outcome
-unlines_outcome None bytes = NotUnderstood
-unlines_outcome (Some w) None = NotUnderstood
-unlines_outcome (Some w) (Some bytes) = frame_in w bytes
-
-unfoldable pub unlines_line : List (List ℕ) → Outcome
-unlines_line ws = cond (length ws == 3) (unlines_outcome (width_in (word_at ws 1)) (bytes_of (word_at ws 2))) NotUnderstood
+unfoldable pub unlines_line : List (List ℕ) → Result Outcome Trouble
+unlines_line ws =
+    cond (length ws == 3)
+    (understood (width_in (word_at ws 1)) (λ w. understood (bytes_of (word_at ws 2)) (frame_in w)))
+    (Err NotUnderstood)
 
 -- a line with no word (words are never empty), or whose first word begins with a hash sign, is silent
 abbrev pub silent : List ℕ → Bool

@@ -1,30 +1,19 @@
 -- What a whole sheet prints.
-use Rattle.std.specs.Prelude.{ℕ, ◌+◌, List, [], ◌∷◌, ◌++◌, codes, decimal}
+use Rattle.std.specs.Prelude.{ℕ, ◌+◌, List, [], ◌∷◌, ◌++◌, Some, None, Ok, Err, codes, decimal}
 use Rattle.text.specs.Pieces.{lines_of, words_of}
-use Rattle.sheet.specs.declared.outcome.Outcome.{Outcome}
-use Rattle.sheet.specs.declared.outcome.Outcome.TheVariants.{Silent, NotUnderstood, Refused, Frame, Parts, Word, Code, Groups, TooLate, Put, Next, Nothing}
 use Rattle.sheet.specs.Asks.{asked}
-use Rattle.sheet.specs.Desk.{World, new_world, after_ask, outcome_in}
-use Rattle.sheet.specs.Shown.{shown_outcome}
+use Rattle.sheet.specs.Desk.{Answer, World, new_world, after_ask, outcome_in}
+use Rattle.sheet.specs.Shown.{shown_outcome, shown_trouble}
 
--- a line's number, what it did, and a line feed
+-- a line's number, what it answered, and a line feed
 abbrev pub numbered : ℕ → List ℕ → List ℕ
 numbered n text = decimal n ++ (codes ": " ++ (text ++ 10 ∷ []))
 
--- nothing of a silent line
-abbrev pub shown_line : ℕ → Outcome → List ℕ
-shown_line n Silent = []
-shown_line n NotUnderstood = numbered n (shown_outcome NotUnderstood)
-shown_line n (Refused r) = numbered n (shown_outcome (Refused r))
-shown_line n (Frame bytes) = numbered n (shown_outcome (Frame bytes))
-shown_line n (Parts p) = numbered n (shown_outcome (Parts p))
-shown_line n (Word c) = numbered n (shown_outcome (Word c))
-shown_line n (Code code) = numbered n (shown_outcome (Code code))
-shown_line n (Groups bytes) = numbered n (shown_outcome (Groups bytes))
-shown_line n TooLate = numbered n (shown_outcome TooLate)
-shown_line n Put = numbered n (shown_outcome Put)
-shown_line n (Next bytes) = numbered n (shown_outcome (Next bytes))
-shown_line n Nothing = numbered n (shown_outcome Nothing)
+-- nothing of a line that has nothing to show
+abbrev pub shown_line : ℕ → Answer → List ℕ
+shown_line n (Ok None) = []
+shown_line n (Ok (Some o)) = numbered n (shown_outcome o)
+shown_line n (Err e) = numbered n (shown_trouble e)
 
 -- what line n prints in a world
 abbrev pub line_print : ℕ → World → List ℕ → List ℕ

@@ -1,15 +1,17 @@
--- What is printed of each outcome.
-use Rattle.std.specs.Prelude.{ℕ, ◌/◌, ◌%◌, Bool, cond, List, [], ◌++◌, codes, decimal}
+-- What is printed of each outcome and of each trouble.
+use Rattle.std.specs.Prelude.{ℕ, ◌/◌, ◌%◌, Bool, cond, List, ◌++◌, codes, decimal}
 use Rattle.std.specs.Fmt.{signed_decimal}
 use Rattle.frame.specs.declared.fields.Fields.{Fields}
+use Rattle.frame.specs.declared.parts.Parts.{Parts}
 use Rattle.frame.specs.declared.refusal.Refusal.{Refusal}
 use Rattle.frame.specs.Naming.{type_of, channel_number}
 use Rattle.frame.specs.Refusals.{number_of, name_of}
 use Rattle.text.specs.Hex.{hex_of, shown_hex4}
 use Rattle.sheet.specs.declared.outcome.Outcome.{Outcome}
-use Rattle.sheet.specs.declared.outcome.Outcome.TheVariants.{Silent, NotUnderstood, Refused, Frame, Parts, Word, Code, Groups, TooLate, Put, Next, Nothing}
+use Rattle.sheet.specs.declared.outcome.Outcome.TheVariants.{Frame, Apart, Word, Code, Groups, Put, Next, Nothing}
 use Rattle.sheet.specs.declared.outcome.CodedWord.{CodedWord}
-use Rattle.sheet.specs.declared.outcome.FrameParts.{FrameParts}
+use Rattle.sheet.specs.declared.trouble.Trouble.{Trouble}
+use Rattle.sheet.specs.declared.trouble.Trouble.TheVariants.{NotUnderstood, TooLate, Refused, OutOfMemory}
 
 -- a bit as a digit
 abbrev pub digit : Bool → List ℕ
@@ -37,7 +39,7 @@ shown_counts f =
     ++ (codes " lcrc " ++ shown_hex4 f.lcrc))))))
 
 -- all of a frame, part by part
-abbrev pub shown_parts : FrameParts → List ℕ
+abbrev pub shown_parts : Parts → List ℕ
 shown_parts p =
     shown_numbers p.fields ++ (codes " " ++ (shown_counts p.fields
     ++ (codes " data " ++ (hex_of p.content
@@ -53,15 +55,18 @@ shown_word c = codes "word " ++ (shown_bits c.word ++ (codes " count " ++ signed
 
 -- what is printed behind a line's number
 abbrev pub shown_outcome : Outcome → List ℕ
-shown_outcome Silent = []
-shown_outcome NotUnderstood = codes "not understood"
-shown_outcome (Refused r) = shown_refusal r
 shown_outcome (Frame bytes) = codes "frame " ++ hex_of bytes
-shown_outcome (Parts p) = shown_parts p
+shown_outcome (Apart p) = shown_parts p
 shown_outcome (Word c) = shown_word c
 shown_outcome (Code code) = codes "code " ++ decimal code
 shown_outcome (Groups bytes) = codes "lines " ++ hex_of bytes
-shown_outcome TooLate = codes "too late"
 shown_outcome Put = codes "put"
 shown_outcome (Next bytes) = codes "next " ++ hex_of bytes
 shown_outcome Nothing = codes "nothing"
+
+-- what is printed behind a line's number where it shows no outcome; a sheet ends where memory runs out
+abbrev pub shown_trouble : Trouble → List ℕ
+shown_trouble NotUnderstood = codes "not understood"
+shown_trouble TooLate = codes "too late"
+shown_trouble (Refused r) = shown_refusal r
+shown_trouble (OutOfMemory _) = codes "out of memory"

@@ -11,6 +11,6 @@ mod reading;
 mod request;
 mod running;
 mod showing;
-mod verb;
+mod trouble;
 
 pub use running::replay;

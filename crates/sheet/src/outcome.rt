@@ -1,31 +1,21 @@
-use frame::{Fields, Refusal};
+use frame::{FrameBytes, Parts};
+use wire::LineGroups;
 
-// What a line did. A line with no word and a comment are `Silent`: they print nothing.
+// What a line shows.
 #[derive(Clone, Copy)]
 pub enum Outcome {
-    Silent,
-    NotUnderstood,
-    Refused(Refusal),
-    Frame([u8; 40]),
-    Parts(FrameParts),
+    Frame(FrameBytes),
+    Apart(Parts),
     Word(CodedWord),
     Code(u8),
-    Groups([u8; 80]),
-    TooLate,
+    Groups(LineGroups),
     Put,
-    Next([u8; 40]),
+    Next(FrameBytes),
     Nothing,
 }
 
-// What a frame holds, part by part.
-#[derive(Clone, Copy)]
-pub struct FrameParts {
-    pub fields: Fields,
-    pub content: [u8; 32],
-    pub syndrome: u16,
-}
-
 // A group on a line: its five bits and the Disparity Count behind it.
+// A struct beside the pair that coding answers, since Display stands on a type of one's own.
 #[derive(Clone, Copy)]
 pub struct CodedWord {
     pub word: u8,

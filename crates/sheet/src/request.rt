@@ -1,31 +1,22 @@
 use crate::outcome::Outcome;
+use line::Width;
 use wire::Fate;
 
-// The kind of a wire, as a sheet declares it.
+// The kind of a wire, as a sheet declares it: for so many whole frames, or of signal lines.
 #[derive(Clone, Copy)]
 pub enum WireKind {
     Plain(u16),
-    Wide,
-    Narrow,
+    Line(Width),
 }
 
-// What a line asks for: to show something that needs nothing else, to declare something, or a call.
+// What a line asks for: to show something that needs nothing else, or nothing, to declare something, or a call.
 #[derive(Drop)]
 pub enum Request {
-    Shows(Outcome),
+    Shows(Option<Outcome>),
     WireIs(WireKind),
     FatesAre(Vec<Fate>),
     Puts(Vec<u8>),
     Nexts,
-}
-
-// What a word says among fates.
-#[derive(Clone, Copy)]
-pub enum FateWord {
-    // A number is to follow.
-    Opens,
-    Is(Fate),
-    Unknown,
 }
 
 // What the declarations of a sheet say so far.

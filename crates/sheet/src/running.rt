@@ -7,75 +7,78 @@ ghost use Rattle.sheet.specs.Print.{prints_from, printed};
 
 use crate::asking::request;
 use crate::desk::{next_of, put_on};
-use crate::outcome::Outcome;
-use crate::printing::put_outcome;
+use crate::printing::{Answer, put_answer};
 use crate::request::{Request, Setup, WireKind};
-use line::Width;
+use crate::trouble::Trouble;
+use frame::{FRAME_SIZE, FrameBytes};
 use std::alloc::{AllocError, Global};
 use text::lines;
-use wire::{AnyWire, Fault, FrameBytes, LineGroups, LineWire, PlainWire};
+use wire::{AnyWire, Fault, GROUPS_SIZE, LINE_PLACES, LineGroups, LineWire, PlainWire};
 
-// What a line does before anything was called. A call is left for later.
-fn declare(setup: &mut Setup, request: Request) -> Option<Outcome>
-    ensures answer { result ≡ before_call (declared (setup_wire setup.old)) (ask_of request) }
-    ensures state { declared (setup_wire setup.new) ≡ setup_after (declared (setup_wire setup.old)) (ask_of request) }
-{
-    match request {
-        Request::Shows(outcome) => Some(outcome),
-        Request::WireIs(kind) => {
-            setup.wire = kind;
-            Some(Outcome::Silent)
+impl Setup {
+    // What a line does before anything was called. A call is left for later.
+    fn declare(&mut self, asked: Result<Request, Trouble>) -> Option<Answer>
+        ensures answer { result ≡ before_call (declared (setup_wire self.old)) (ask_of asked) }
+        ensures state { declared (setup_wire self.new) ≡ setup_after (declared (setup_wire self.old)) (ask_of asked) }
+    {
+        match asked {
+            Ok(Request::Shows(outcome)) => Some(Ok(outcome)),
+            Ok(Request::WireIs(kind)) => {
+                self.wire = kind;
+                Some(Ok(None))
+            }
+            Ok(Request::FatesAre(fates)) => {
+                self.fates = fates;
+                Some(Ok(None))
+            }
+            Ok(Request::Puts(_) | Request::Nexts) => None,
+            Err(trouble) => Some(Err(trouble)),
         }
-        Request::FatesAre(fates) => {
-            setup.fates = fates;
-            Some(Outcome::Silent)
-        }
-        Request::Puts(_) => None,
-        Request::Nexts => None,
     }
 }
 
 // What a line does from the first call on.
-fn carry_out(wire: &mut Fault<'_, AnyWire<'_>>, request: Request) -> Outcome
-    ensures answer { result ≡ outcome_in (called (wire_state wire.old)) (ask_of request) }
-    ensures state { called (wire_state wire.new) ≡ after_ask (called (wire_state wire.old)) (ask_of request) }
+fn carry_out(wire: &mut Fault<'_, AnyWire<'_>>, asked: Result<Request, Trouble>) -> Answer
+    ensures answer { result ≡ outcome_in (called (wire_state wire.old)) (ask_of asked) }
+    ensures state { called (wire_state wire.new) ≡ after_ask (called (wire_state wire.old)) (ask_of asked) }
 {
-    match request {
-        Request::Shows(outcome) => outcome,
-        Request::WireIs(_) => Outcome::TooLate,
-        Request::FatesAre(_) => Outcome::TooLate,
-        Request::Puts(frame) => put_on(wire, &frame),
-        Request::Nexts => next_of(wire),
+    match asked? {
+        Request::Shows(outcome) => Ok(outcome),
+        Request::WireIs(_) | Request::FatesAre(_) => Err(Trouble::TooLate),
+        Request::Puts(frame) => Ok(Some(put_on(wire, &frame)?)),
+        Request::Nexts => Ok(Some(next_of(wire)?)),
     }
 }
 
-// How many places a kind of wire needs for whole frames.
-fn places(kind: WireKind) -> usize
-    ensures { result ≡ places_of kind }
-{
-    match kind {
-        WireKind::Plain(count) => count as usize,
-        WireKind::Wide | WireKind::Narrow => 0,
+impl WireKind {
+    // How many places a wire of this kind needs for whole frames.
+    fn places(self) -> usize
+        ensures { result ≡ places_of self }
+    {
+        match self {
+            WireKind::Plain(count) => usize::from(count),
+            WireKind::Line(_) => 0,
+        }
     }
-}
 
-// A wire of a kind over lent memory.
-fn make_wire<'a>(
-    kind: WireKind,
-    frames: &'a mut [FrameBytes],
-    groups: &'a mut [LineGroups; 16],
-) -> AnyWire<'a>
-    ensures empty { any_frames result ≡ [] }
-    ensures room { length frames.old ≡ places_of kind → any_room result ≡ room_of kind }
-{
-    match kind {
-        WireKind::Plain(_) => AnyWire::Plain(PlainWire::new(frames)),
-        WireKind::Wide => AnyWire::Line(LineWire::new(Width::Wide, groups)),
-        WireKind::Narrow => AnyWire::Line(LineWire::new(Width::Narrow, groups)),
+    // A wire of this kind over lent memory.
+    fn make<'a>(
+        self,
+        frames: &'a mut [FrameBytes],
+        groups: &'a mut [LineGroups; LINE_PLACES],
+    ) -> AnyWire<'a>
+        ensures empty { any_frames result ≡ [] }
+        ensures room { length frames.old ≡ places_of self → any_room result ≡ room_of self }
+    {
+        match self {
+            WireKind::Plain(_) => AnyWire::Plain(PlainWire::new(frames)),
+            WireKind::Line(width) => AnyWire::Line(LineWire::new(width, groups)),
+        }
     }
 }
 
 // Carries out the lines before the first call, and answers how many they are.
+// Heap, print and lines stand side by side: a struct of them would only add to each contract that the lines stay.
 fn run_declarations(
     heap: Global,
     out: &mut String,
@@ -86,8 +89,8 @@ fn run_declarations(
 {
     for (i, line) in pieces.iter().enumerate() {
         let asked = request(heap, line)?;
-        match declare(setup, asked) {
-            Some(outcome) => put_outcome(out, i + 1, &outcome)?,
+        match setup.declare(asked) {
+            Some(answer) => put_answer(out, i + 1, &answer)?,
             None => return Ok(i),
         }
     }
@@ -104,10 +107,13 @@ fn run_calls(
 ) -> Result<(), AllocError>
     ensures { OnOk result (string_bytes out.new ≡ string_bytes out.old ++ prints_from (from + 1) (called (wire_state wire.old)) (map (λ x. x.now) (drop from pieces.now))) }
 {
-    for i in from..pieces.len() {
-        let asked = request(heap, pieces[i])?;
-        let outcome = carry_out(wire, asked);
-        put_outcome(out, i + 1, &outcome)?;
+    let Some(rest) = pieces.get(from..) else {
+        return Ok(());
+    };
+    for (i, line) in rest.iter().enumerate() {
+        let asked = request(heap, line)?;
+        let answer = carry_out(wire, asked);
+        put_answer(out, from + i + 1, &answer)?;
     }
     Ok(())
 }
@@ -116,7 +122,7 @@ fn run_calls(
 fn blank_frames(heap: Global, count: usize) -> Result<Vec<FrameBytes>, AllocError>
     ensures { IfOk result (λ v. length v.items ≡ count) }
 {
-    vec![in heap; [0; 40]; count]
+    vec![in heap; [0; FRAME_SIZE]; count]
 }
 
 // Makes what the sheet declared, and carries out the lines from the first call on.
@@ -129,14 +135,11 @@ fn run_made(
 ) -> Result<(), AllocError>
     ensures { OnOk result (string_bytes out.new ≡ string_bytes out.old ++ prints_from (from + 1) (called (setup_wire setup.now)) (map (λ x. x.now) (drop from pieces.now))) }
 {
-    let mut frames = blank_frames(heap, places(setup.wire))?;
-    let mut groups = [[0; 80]; 16];
-    let mut wire = Fault::new(
-        make_wire(setup.wire, &mut frames, &mut groups),
-        &setup.fates,
-    );
-    run_calls(heap, out, pieces, from, &mut wire)?;
-    Ok(())
+    let mut frames = blank_frames(heap, setup.wire.places())?;
+    let mut groups = [[0; GROUPS_SIZE]; LINE_PLACES];
+    let below = setup.wire.make(&mut frames, &mut groups);
+    let mut wire = Fault::new(below, &setup.fates);
+    run_calls(heap, out, pieces, from, &mut wire)
 }
 
 // How the three ends stand when the sheet is over: nothing can be called at an end yet.

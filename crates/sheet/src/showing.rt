@@ -1,94 +1,52 @@
-// What is printed of an outcome.
+// What is printed of outcomes and troubles.
 ghost use Rattle.std.specs.Prelude.{◌≡◌, ◌++◌, Some, codes, decimal};
 ghost use Rattle.text.specs.Hex.{hex_of};
-ghost use Rattle.sheet.specs.Shown.{shown_refusal, shown_numbers, shown_counts, shown_parts, shown_bits, shown_word, shown_outcome};
+ghost use Rattle.sheet.specs.Shown.{shown_parts, shown_bits, shown_word, shown_outcome, shown_trouble};
 
-use crate::outcome::{CodedWord, FrameParts, Outcome};
-use frame::{Fields, Refusal};
+use crate::outcome::{CodedWord, Outcome};
+use crate::trouble::Trouble;
+use frame::Parts;
 use std::fmt;
 use text::writing::{Hex, Hex4};
 
-// A refusal as a person looks it up.
-#[derive(Clone, Copy)]
-struct Named(Refusal);
-
-impl fmt::Display for Named {
-    ghost output = { λ x. Some (shown_refusal x.0) };
+impl fmt::Display for Trouble {
+    ghost output = { λ x. Some (shown_trouble x) };
 
     fn fmt<W: fmt::Write>(&self, f: &mut fmt::Formatter<W>) -> fmt::Result {
-        let number = self.0.number();
-        let name = self.0.name();
-        write!(f, "refused {number} {name}")
+        match self {
+            Trouble::NotUnderstood => f.write_str("not understood"),
+            Trouble::TooLate => f.write_str("too late"),
+            // The number and the name that a person looks up.
+            Trouble::Refused(refusal) => write!(f, "refused {} {refusal}", u8::from(*refusal)),
+            Trouble::OutOfMemory(_) => f.write_str("out of memory"),
+        }
     }
 }
 
-// The fields up to CR.
+// A frame taken apart, as it is shown: a type of its own, since how a sheet prints is none of the frame's business.
 #[derive(Clone, Copy)]
-struct FieldNumbers(Fields);
+struct Labelled(Parts);
 
-impl fmt::Display for FieldNumbers {
-    ghost output = { λ x. Some (shown_numbers x.0) };
+impl fmt::Display for Labelled {
+    ghost output = { λ x. Some (shown_parts x.0) };
 
     fn fmt<W: fmt::Write>(&self, f: &mut fmt::Formatter<W>) -> fmt::Result {
-        let fields = self.0;
-        let vc = fields.vc.number();
-        let kind = fields.kind.value();
-        let tail = fields.tail as u8;
-        let error = fields.error as u8;
-        let vcr = fields.vcr.number();
-        let cr = fields.cr;
+        let fields = self.0.fields;
         write!(
             f,
-            "vc {vc} type {kind} tail {tail} error {error} vcr {vcr} cr {cr}"
-        )
-    }
-}
-
-// The fields from RSEQ on.
-#[derive(Clone, Copy)]
-struct FieldChecks(Fields);
-
-impl fmt::Display for FieldChecks {
-    ghost output = { λ x. Some (shown_counts x.0) };
-
-    fn fmt<W: fmt::Write>(&self, f: &mut fmt::Formatter<W>) -> fmt::Result {
-        let rseq = self.0.rseq;
-        let tseq = self.0.tseq;
-        let ecrc = Hex4(self.0.ecrc);
-        let lcrc = Hex4(self.0.lcrc);
-        write!(f, "rseq {rseq} tseq {tseq} ecrc {ecrc} lcrc {lcrc}")
-    }
-}
-
-impl fmt::Display for FrameParts {
-    ghost output = { λ x. Some (shown_parts x) };
-
-    fn fmt<W: fmt::Write>(&self, f: &mut fmt::Formatter<W>) -> fmt::Result {
-        let numbers = FieldNumbers(self.fields);
-        let checks = FieldChecks(self.fields);
-        let content = Hex(&self.content);
-        let syndrome = Hex4(self.syndrome);
-        write!(f, "{numbers} {checks} data {content} syndrome {syndrome}")
-    }
-}
-
-// Five bits, the highest first.
-#[derive(Clone, Copy)]
-struct Bits(u8);
-
-impl fmt::Display for Bits {
-    ghost output = { λ x. Some (shown_bits x.0) };
-
-    fn fmt<W: fmt::Write>(&self, f: &mut fmt::Formatter<W>) -> fmt::Result {
-        let w = self.0;
-        write!(
-            f,
-            "{}{}{}{}{}",
-            w / 16 % 2,
-            w / 8 % 2,
-            w / 4 % 2,
-            w / 2 % 2,
-            w % 2
+            "vc {} type {} tail {} error {} vcr {} cr {} rseq {} tseq {} ecrc {} lcrc {} data {} syndrome {}",
+            u8::from(fields.vc),
+            u8::from(fields.kind),
+            u8::from(fields.tail),
+            u8::from(fields.error),
+            u8::from(fields.vcr),
+            fields.cr,
+            fields.rseq,
+            fields.tseq,
+            Hex4(fields.ecrc),
+            Hex4(fields.lcrc),
+            Hex(&self.0.content),
+            Hex4(self.0.syndrome)
         )
     }
 }
@@ -96,9 +54,12 @@ impl fmt::Display for Bits {
 impl fmt::Display for CodedWord {
     ghost output = { λ x. Some (shown_word x) };
 
+    #[tactic(auto, using(crate::proofs::Bits::bits))]
     fn fmt<W: fmt::Write>(&self, f: &mut fmt::Formatter<W>) -> fmt::Result {
+        // Five bits, whatever else the byte holds.
+        let bits = self.word % 32;
         let count = self.count;
-        write!(f, "word {} count {count}", Bits(self.word))
+        write!(f, "word {bits:05b} count {count}")
     }
 }
 
@@ -107,15 +68,11 @@ impl fmt::Display for Outcome {
 
     fn fmt<W: fmt::Write>(&self, f: &mut fmt::Formatter<W>) -> fmt::Result {
         match self {
-            Outcome::Silent => Ok(()),
-            Outcome::NotUnderstood => f.write_str("not understood"),
-            Outcome::Refused(refusal) => write!(f, "{}", Named(*refusal)),
             Outcome::Frame(bytes) => write!(f, "frame {}", Hex(bytes)),
-            Outcome::Parts(parts) => write!(f, "{parts}"),
+            Outcome::Apart(parts) => write!(f, "{}", Labelled(*parts)),
             Outcome::Word(word) => write!(f, "{word}"),
             Outcome::Code(code) => write!(f, "code {code}"),
             Outcome::Groups(groups) => write!(f, "lines {}", Hex(groups)),
-            Outcome::TooLate => f.write_str("too late"),
             Outcome::Put => f.write_str("put"),
             Outcome::Next(bytes) => write!(f, "next {}", Hex(bytes)),
             Outcome::Nothing => f.write_str("nothing"),

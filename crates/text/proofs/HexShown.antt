@@ -1,32 +1,27 @@
 -- Pairs of digits as they are written. Assumes nothing.
-use Rattle.std.proofs.Common.{◌≡◌, ℕ, zero, suc, ◌+◌, ◌*◌, ◌/◌, ◌%◌, ◌<◌, ◌≤◌, Bool, true, false, ◌&&◌, eqb, List, [], ◌∷◌, ◌++◌, length, get_or, take, set, Some, None, codes, IsUtf8, Decides, Option, sym, refl, ap, ◌∙◌, ⊎_elim, append_assoc, arith}
+use Rattle.std.proofs.Common.{◌≡◌, ℕ, zero, suc, ◌+◌, ◌/◌, ◌%◌, ◌<◌, ◌≤◌, Bool, true, false, ◌&&◌, eqb, List, [], ◌∷◌, ◌++◌, length, get_or, take, map, set, Some, None, codes, IsUtf8, Decides, Option, sym, refl, ap, ◌∙◌, ⊎_elim, arith}
 use Rattle.std.proofs.ByRecursion.{IsAscii-from_all, All-get_or}
 use Rattle.std.proofs.lemmas.Str.{IsUtf8-from_ascii}
-use Rattle.std.proofs.lemmas.List.{take_more, take_more_set, take_all, length-set, get_or_past}
-use Rattle.std.specs.List.{AllByRecursion}
+use Rattle.std.proofs.lemmas.List.{take_more, take_more_set, take_all, map_push, get_or_past}
+use Rattle.std.specs.List.{flat_map, AllByRecursion}
 use Rattle.std.proofs.lemmas.Bool.{eqb-true, eq-eqb, ne_eqb, and_left, cond-false, cases_lt}
 use Rattle.std.proofs.lemmas.Bool.Decides.{Decides-below_and}
-use Rattle.text.specs.Hex.{nibble_of, both, byte_of, in_front, pairs_of, lower, upper, shown_pairs, hex_of, shown_hex4, is_dash, bytes_of, BytesComeBack, Hex4ComesBack}
-
-pub shown_append : (xs ys : List ℕ) → shown_pairs (xs ++ ys) ≡ shown_pairs xs ++ shown_pairs ys
-shown_append [] ys = refl
-shown_append (x ∷ xs) ys = ap (λ l. lower (x / 16) ∷ lower (x % 16) ∷ l) (shown_append xs ys)
+use Rattle.text.specs.Hex.{nibble_of, both, byte_of, in_front, pairs_of, lower, pair_of, shown_pairs, hex_of, shown_hex4, is_dash, bytes_of, BytesComeBack, Hex4ComesBack}
 
 -- one more byte is spelled
-pub spelled_more : (bytes text : List ℕ) (i x y : ℕ) → i < length bytes → 2 * i + 1 < length text → x ≡ lower (get_or bytes i 0 / 16) → y ≡ lower (get_or bytes i 0 % 16) → take (2 * i) text ≡ shown_pairs (take i bytes) → take (2 * (i + 1)) (set (set text (2 * i) x) (2 * i + 1) y) ≡ shown_pairs (take (i + 1) bytes)
-spelled_more bytes text i x y h l ex ey inv =
-    let n : 2 * (i + 1) ≡ 2 * i + 1 + 1 = omega arith in
-    let in1 : 2 * i < length text = omega arith in
-    let in2 : 2 * i + 1 < length (set text (2 * i) x) = omega (arith, length-set text (2 * i) x) in
-    ap (λ k. take k (set (set text (2 * i) x) (2 * i + 1) y)) n
-    ∙ take_more_set (set text (2 * i) x) (2 * i + 1) y in2
-    ∙ ap (λ l. l ++ y ∷ []) (take_more_set text (2 * i) x in1 ∙ ap (λ l. l ++ x ∷ []) inv)
-    ∙ append_assoc (shown_pairs (take i bytes)) (x ∷ []) (y ∷ [])
-    ∙ (λ j. shown_pairs (take i bytes) ++ ex j ∷ ey j ∷ [])
-    ∙ sym (ap shown_pairs (take_more bytes i 0 h) ∙ shown_append (take i bytes) (get_or bytes i 0 ∷ []))
+pub spelled_more : (bytes : List ℕ) (text : List (List ℕ)) (i : ℕ) (p : List ℕ) → i < length bytes → i < length text → p ≡ pair_of (get_or bytes i 0) → take i text ≡ map pair_of (take i bytes) → take (i + 1) (set text i p) ≡ map pair_of (take (i + 1) bytes)
+spelled_more bytes text i p h l e inv =
+    take_more_set text i p l
+    ∙ (λ j. inv j ++ e j ∷ [])
+    ∙ sym (ap (map pair_of) (take_more bytes i 0 h) ∙ map_push pair_of (take i bytes) (get_or bytes i 0))
 
-pub spelled_all : (bytes text : List ℕ) (i : ℕ) → length bytes ≤ i → i ≤ length bytes → take (2 * i) text ≡ shown_pairs (take i bytes) → take (2 * length bytes) text ≡ shown_pairs bytes
-spelled_all bytes text i h k inv = let e : length bytes ≡ i = omega arith in ap (λ n. take (2 * n) text) e ∙ inv ∙ ap shown_pairs (take_all i bytes h)
+pub spelled_all : (bytes : List ℕ) (text : List (List ℕ)) (i : ℕ) → length bytes ≤ i → i ≤ length bytes → take i text ≡ map pair_of (take i bytes) → take (length bytes) text ≡ map pair_of bytes
+spelled_all bytes text i h k inv = let e : length bytes ≡ i = omega arith in ap (λ n. take n text) e ∙ inv ∙ ap (map pair_of) (take_all i bytes h)
+
+-- the pairs end to end
+pub flat_pairs : (bytes : List ℕ) → flat_map (λ x. x) (map pair_of bytes) ≡ shown_pairs bytes
+flat_pairs [] = refl
+flat_pairs (b ∷ bs) = ap (λ l. lower (b / 16) ∷ lower (b % 16) ∷ l) (flat_pairs bs)
 
 -- a digit is read back
 is : ℕ → Option ℕ → Bool
@@ -65,9 +60,6 @@ pub hex_of_some : (bs : List ℕ) → (length bs ≡ 0 → ⊥) → shown_pairs 
 unfolding hex_of
 hex_of_some [] e = absurd (e refl)
 hex_of_some (b ∷ bs) e = refl
-
-pub upper_ascii : (d : ℕ) → d < 16 → upper d < 128
-upper_ascii d h = All-get_or (λ c. c < 128) (codes "0123456789ABCDEF") d 0 h (omega arith)
 
 -- two digits and more are neither nothing nor a dash
 long : (b : ℕ) (bs : List ℕ) → bytes_of (shown_pairs (b ∷ bs)) ≡ pairs_of (shown_pairs (b ∷ bs))

@@ -1,6 +1,6 @@
 -- Bytes as pairs of hexadecimal digits, and back.
 use Rattle.std.specs.Prelude.{◌≡◌, ℕ, ◌+◌, ◌-◌, ◌*◌, ◌/◌, ◌%◌, ◌<◌, Bool, cond, ◌&&◌, List, [], ◌∷◌, length, Some, None, codes, Option, ◌==◌, nat_le, slice_index}
-use Rattle.std.specs.List.{AllByRecursion}
+use Rattle.std.specs.List.{flat_map, AllByRecursion}
 
 -- the value of a digit, of either case
 abbrev pub nibble_of : ℕ → Option ℕ
@@ -44,9 +44,12 @@ lower d = slice_index (codes "0123456789abcdef") d
 abbrev pub upper : ℕ → ℕ
 upper d = slice_index (codes "0123456789ABCDEF") d
 
+-- a byte in two digits
+abbrev pub pair_of : ℕ → List ℕ
+pair_of b = lower (b / 16) ∷ lower (b % 16) ∷ []
+
 abbrev pub shown_pairs : List ℕ → List ℕ
-shown_pairs [] = []
-shown_pairs (b ∷ bs) = lower (b / 16) ∷ lower (b % 16) ∷ shown_pairs bs
+shown_pairs bs = flat_map pair_of bs
 
 -- how bytes are written: in lower case, and a dash where there are none
 unfoldable pub hex_of : List ℕ → List ℕ

@@ -38,14 +38,13 @@ module _
       ∙ gained_map (carried (line_width before)) kept (line_groups before) groups
       ∙ ap (gained kept (line_frames before)) coded.back
 
-  pub line_put : Put (line_frames before) frame (line_frames after)
-  line_put = put_gained kept (line_frames before) frame (line_frames after) whole frames_so
-
-  pub line_own : line_room after ≡ line_room before → LinePuts before frame after
-  line_own same =
-      record {
-        frames = rw (← keeps_so) frames_so;
-        groups = rw (← keeps_so) (items ∙ ap (gained kept (line_groups before)) coded.out);
-        counts = rw (← keeps_so) (moved ∙ ap (λ k. cond kept k before.counts) coded.moved);
-        room = same;
-      }
+  pub line_pushed : line_room after ≡ line_room before → Put (line_frames before) frame (line_frames after) × LinePuts before frame after
+  line_pushed same = (
+    put_gained kept (line_frames before) frame (line_frames after) whole frames_so,
+    record {
+      frames = rw (← keeps_so) frames_so;
+      groups = rw (← keeps_so) (items ∙ ap (gained kept (line_groups before)) coded.out);
+      counts = rw (← keeps_so) (moved ∙ ap (λ k. cond kept k before.counts) coded.moved);
+      room = same;
+    },
+  )

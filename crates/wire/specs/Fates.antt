@@ -1,5 +1,6 @@
 -- The fault layer: what becomes of a frame that is put on.
-use Rattle.std.specs.Prelude.{◌≡◌, ℕ, ◌*◌, cond, List, length, take, drop, Some, None, Option, ◌==◌, nat_lt, slice_index_or}
+use Rattle.std.specs.Prelude.{◌≡◌, ℕ, ◌*◌, cond, List, length, drop, Some, None, Option, ◌==◌, nat_lt, slice_index_or}
+use Rattle.std.specs.Slice.Iter.{iter_rest}
 use Rattle.crc.specs.Laws.{flipped}
 use Rattle.frame.specs.Checks.{syndrome_of}
 use Rattle.wire.specs.declared.fate.Fate.{Fate}
@@ -7,12 +8,9 @@ use Rattle.wire.specs.declared.fate.Fate.TheVariants.{Pass, Lose, Flip}
 use Rattle.wire.specs.declared.fault.Fault.{Fault}
 use Rattle.wire.specs.Wires.{frame_size}
 
--- the fates that are left after some are spent: of those given, 64 at most are used
-unfoldable pub unspent : List Fate → ℕ → List Fate
-unspent fates spent = drop spent (take 64 fates)
-
+-- the fates that are left: of those given, 64 at most are used
 abbrev pub fates_left : {W : Type 0} → Fault W → List Fate
-fates_left f = unspent f.fates.now f.turn
+fates_left f = iter_rest f.fates
 
 -- the fate of the next frame: after the last fate all pass
 abbrev pub next_fate : List Fate → Fate

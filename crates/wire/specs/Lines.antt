@@ -1,9 +1,10 @@
 -- The line wire, which holds frames as groups.
 use Rattle.std.specs.Prelude.{◌≡◌, ℕ, Bool, cond, List, map, replicate}
+use Rattle.std.specs.List.{list_all}
 use Rattle.line.specs.declared.counts.Counts.{Counts}
 use Rattle.line.specs.declared.width.Width.{Width}
 use Rattle.line.specs.Code.{in_range}
-use Rattle.line.specs.Groups.{all, counts_of, width_of, with_counts, fresh, coded_counts, coded_groups, received_frame}
+use Rattle.line.specs.Groups.{counts_of, width_of, with_counts, fresh, coded_counts, coded_groups, received_frame}
 use Rattle.ring.specs.Items.{ring_items, ring_cap}
 use Rattle.wire.specs.declared.lines.LineWire.{LineWire}
 use Rattle.wire.specs.Wires.{frame_size}
@@ -15,7 +16,7 @@ carried width groups = received_frame width groups (replicate frame_size 0)
 
 -- the counts that the next frame goes out from; 0 on every line where one has a count that no line comes to
 unfoldable pub running : Counts → Counts
-running counts = cond (all in_range (counts_of counts)) counts (fresh (width_of counts))
+running counts = cond (list_all in_range (counts_of counts)) counts (fresh (width_of counts))
 
 -- the groups of a frame that goes out from counts, and the counts after it
 unfoldable pub groups_out : Counts → List ℕ → List ℕ

@@ -8,6 +8,7 @@ use crate::wire_trait::Wire;
 use frame::Refusal;
 
 // A plain wire, or a line wire in either width. Under a fault layer it is a `Fault<AnyWire>`.
+// An enum, so that whoever makes a wire of a kind that is read as the program runs can hand it out by value.
 #[derive(Drop)]
 pub enum AnyWire<'a> {
     Plain(PlainWire<'a>),

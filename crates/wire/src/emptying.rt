@@ -2,8 +2,8 @@
 ghost use Rattle.std.specs.Prelude.{◌≡◌, ◌+◌, cond, [], length};
 
 use crate::arrival::Arrival;
-use crate::frames::FRAME_SIZE;
 use crate::wire_trait::Wire;
+use frame::FRAME_SIZE;
 
 // Empties a wire, whatever is on it.
 pub fn drain<W: Wire>(wire: &mut W)

@@ -1,116 +1,13 @@
-// A layer over any wire that loses or damages what is put, as a list of fates says.
-ghost use Rattle.std.specs.Prelude.{◌≡◌, ◌*◌, ◌<◌, length, take, drop, ◌==◌};
-ghost use Rattle.crc.specs.Laws.{flipped};
-ghost use Rattle.frame.specs.Checks.{syndrome_of};
-ghost use Rattle.wire.specs.Fates.{fates_left, next_fate, damaged, struck, FaultPuts, FaultTakes};
-ghost use Rattle.wire.specs.Wires.{frame_size};
+ghost use Rattle.std.specs.Prelude.{◌≤◌, length};
+ghost use Rattle.std.specs.Slice.Iter.{iter_rest};
 
-use crate::arrival::Arrival;
 use crate::fate::Fate;
-use crate::frames::{FRAME_SIZE, FrameBytes, copied};
-use crate::wire_trait::Wire;
-use frame::{Refusal, syndrome};
+use std::slice::Iter;
 
-// How many fates are used at most: those beyond are ignored.
-const FATES: usize = 64;
-
-// How many bits a frame has.
-const FRAME_BITS: u64 = 8 * FRAME_SIZE as u64;
-
-// The wire below, the fates, and how many of them are spent.
+// The wire below, and the fates that are left, which are never more than are used.
 #[derive(Drop)]
 pub struct Fault<'a, W> {
-    below: W,
-    fates: &'a [Fate],
-    turn: usize,
-}
-
-impl<'a, W> Fault<'a, W> {
-    pub fn new(below: W, fates: &'a [Fate]) -> Fault<'a, W>
-        ensures below { result.below ≡ below }
-        ensures fates { fates_left result ≡ take 64 fates.now }
-    {
-        Fault {
-            below,
-            fates,
-            turn: 0,
-        }
-    }
-
-    // The fate of the next frame, which is then spent: after the last, every frame passes.
-    fn spend(&mut self) -> Fate
-        ensures is { result ≡ next_fate (fates_left self.old) }
-        ensures left { fates_left self.new ≡ drop 1 (fates_left self.old) }
-        ensures below { self.new.below ≡ self.old.below }
-    {
-        if self.turn < self.fates.len().min(FATES) {
-            let fate = self.fates[self.turn];
-            self.turn += 1;
-            fate
-        } else {
-            Fate::Pass
-        }
-    }
-}
-
-// Whether a frame passes the link check.
-fn is_good(frame: &FrameBytes) -> bool
-    ensures { result ≡ (syndrome_of frame.now == 0) }
-{
-    match syndrome(frame) {
-        Ok(left_over) => left_over == 0,
-        Err(_) => false,
-    }
-}
-
-// A frame with one bit turned over.
-fn turned_over(frame: FrameBytes, n: u64) -> FrameBytes
-    requires { n < 8 * frame_size }
-    ensures { result ≡ flipped frame n }
-{
-    let mut bytes = frame;
-    bytes[n as usize / 8] ^= 1 << (n % 8);
-    bytes
-}
-
-// A flip changes only a good frame, and only where it names one of its bits.
-fn damage(frame: FrameBytes, n: u64) -> FrameBytes
-    ensures { result ≡ damaged n frame }
-{
-    if n < FRAME_BITS && is_good(&frame) {
-        turned_over(frame, n)
-    } else {
-        frame
-    }
-}
-
-// What a fate makes of a frame: nothing where it is lost.
-fn strike(fate: Fate, frame: FrameBytes) -> Option<FrameBytes>
-    ensures { result ≡ struck fate frame }
-{
-    match fate {
-        Fate::Pass => Some(frame),
-        Fate::Lose => None,
-        Fate::Flip(n) => Some(damage(frame, n)),
-    }
-}
-
-impl<'a, W: Wire> Wire for Fault<'a, W> {
-    ghost frames = { λ f. W.Wire.frames f.below };
-
-    ghost puts = { FaultPuts W.Wire.puts };
-
-    ghost takes = { FaultTakes W.Wire.takes };
-
-    fn put(&mut self, frame: &[u8]) -> Result<(), Refusal> {
-        let bytes = copied(frame)?;
-        match strike(self.spend(), bytes) {
-            Some(bytes) => self.below.put(&bytes),
-            None => Ok(()),
-        }
-    }
-
-    fn next(&mut self, frame: &mut [u8]) -> Result<Arrival, Refusal> {
-        self.below.next(frame)
-    }
+    pub(crate) below: W,
+    pub(crate) fates: Iter<'a, Fate>,
+    ghost few: { length (iter_rest fates) ≤ 64 },
 }

@@ -3,12 +3,13 @@
 
 mod any;
 mod arrival;
+mod delivery;
 mod emptying;
 mod fate;
 mod fault;
-mod frames;
 mod lines;
 mod plain;
+mod striking;
 mod wire_trait;
 
 pub use any::AnyWire;
@@ -16,8 +17,9 @@ pub use arrival::Arrival;
 pub use emptying::drain;
 pub use fate::Fate;
 pub use fault::Fault;
-pub use frames::{FRAME_SIZE, FrameBytes};
-pub use lines::{GROUPS_SIZE, LINE_PLACES, LineGroups, LineWire};
+pub use frame::{FRAME_SIZE, FrameBytes};
+pub use line::{GROUPS_SIZE, Groups as LineGroups};
+pub use lines::{LINE_PLACES, LineWire};
 pub use plain::PlainWire;
 pub use wire_trait::Wire;
 

@@ -1,23 +1,18 @@
 // A wire that holds frames as groups on signal lines, as docs/LINES.md has them.
-ghost use Rattle.std.specs.Prelude.{◌≡◌, []};
+ghost use Rattle.std.specs.Prelude.{◌≡◌, [], drop};
+ghost use Rattle.std.specs.List.{slice_get};
 ghost use Rattle.line.specs.Groups.{fresh};
 ghost use Rattle.wire.specs.Lines.{carried, Coded, line_frames, line_room, LinePuts, LineTakes};
 
 use crate::arrival::Arrival;
-use crate::frames::{FRAME_SIZE, FrameBytes, copied};
+use crate::delivery::deliver;
 use crate::wire_trait::Wire;
-use frame::Refusal;
-use line::{Counts, Width, frame_to_groups, groups_to_frame};
+use frame::{FRAME_SIZE, FrameBytes, Refusal, sized};
+use line::{Counts, GROUPS_SIZE, Groups as LineGroups, Width, frame_to_groups, groups_to_frame};
 use ring::Ring;
 
 // How many frames a line wire holds.
 pub const LINE_PLACES: usize = 16;
-
-// How many groups a frame goes out as: two to a byte.
-pub const GROUPS_SIZE: usize = 2 * FRAME_SIZE;
-
-// The groups of one frame, a byte each.
-pub type LineGroups = [u8; GROUPS_SIZE];
 
 // Holds 16 frames as groups, loses only what is put when it is full, and keeps the running count of every line.
 #[derive(Drop)]
@@ -37,21 +32,35 @@ impl<'a> LineWire<'a> {
             queue: Ring::new(area, LINE_PLACES),
         }
     }
+
+    // Takes the oldest off, as the frame that its groups carry.
+    fn take_oldest(&mut self) -> Option<FrameBytes>
+        ensures oldest { result ≡ slice_get (line_frames self.old) 0 }
+        ensures left { line_frames self.new ≡ drop 1 (line_frames self.old) }
+        ensures own { LineTakes self.old self.new }
+    {
+        let groups = self.queue.pop_front()?;
+        Some(frame_of(self.counts.width(), &groups))
+    }
 }
 
 // The frame that groups carry.
+#[tactic(auto, unfolding(crate::specs::Lines::carried))]
 fn frame_of(width: Width, groups: &LineGroups) -> FrameBytes
     ensures { result ≡ carried width groups.now }
 {
     let mut frame = [0u8; FRAME_SIZE];
+    // A refusal leaves the zeros, as `carried` has it.
     let _ = groups_to_frame(width, groups, &mut frame);
     frame
 }
 
 // The groups of a frame from running counts; answers the counts after it.
+#[tactic(auto, using(crate::proofs::Outgoing::afresh))]
 fn code(counts: Counts, frame: &FrameBytes, groups: &mut LineGroups) -> Counts
     ensures { Coded counts frame.now groups.new result }
 {
+    // A match: lent to a closure, the groups that the first code wrote would not be known to stay.
     match frame_to_groups(frame, counts, groups) {
         Ok(after) => after,
         Err(_) => code_afresh(counts.width(), frame, groups),
@@ -62,10 +71,7 @@ fn code(counts: Counts, frame: &FrameBytes, groups: &mut LineGroups) -> Counts
 fn code_afresh(width: Width, frame: &FrameBytes, groups: &mut LineGroups) -> Counts
     ensures { Coded (fresh width) frame.now groups.new result }
 {
-    match frame_to_groups(frame, Counts::new(width), groups) {
-        Ok(after) => after,
-        Err(_) => unreachable(),
-    }
+    frame_to_groups(frame, Counts::new(width), groups).unwrap()
 }
 
 impl<'a> Wire for LineWire<'a> {
@@ -76,9 +82,9 @@ impl<'a> Wire for LineWire<'a> {
     ghost takes = { LineTakes };
 
     fn put(&mut self, frame: &[u8]) -> Result<(), Refusal> {
-        let bytes = copied(frame)?;
+        let bytes: &FrameBytes = sized(frame)?;
         let mut groups = [0u8; GROUPS_SIZE];
-        let counts = code(self.counts, &bytes, &mut groups);
+        let counts = code(self.counts, bytes, &mut groups);
         if self.queue.push_back(groups) {
             self.counts = counts;
         }
@@ -86,15 +92,7 @@ impl<'a> Wire for LineWire<'a> {
     }
 
     fn next(&mut self, frame: &mut [u8]) -> Result<Arrival, Refusal> {
-        if frame.len() != FRAME_SIZE {
-            return Err(Refusal::BadSize);
-        }
-        match self.queue.pop_front() {
-            Some(groups) => {
-                frame.copy_from_slice(&frame_of(self.counts.width(), &groups));
-                Ok(Arrival::Frame)
-            }
-            None => Ok(Arrival::Nothing),
-        }
+        let frame = frame.as_mut_array().ok_or(Refusal::BadSize)?;
+        Ok(deliver(self.take_oldest(), frame))
     }
 }

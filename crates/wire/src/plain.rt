@@ -3,9 +3,9 @@ ghost use Rattle.std.specs.Prelude.{◌≡◌, [], length};
 ghost use Rattle.wire.specs.Plains.{plain_frames, plain_room, PlainPuts, PlainTakes};
 
 use crate::arrival::Arrival;
-use crate::frames::{FRAME_SIZE, FrameBytes, copied};
+use crate::delivery::deliver;
 use crate::wire_trait::Wire;
-use frame::Refusal;
+use frame::{FrameBytes, Refusal, sized};
 use ring::Ring;
 
 // Holds as many frames as its area, and loses only what is put when it is full.
@@ -34,21 +34,13 @@ impl<'a> Wire for PlainWire<'a> {
     ghost takes = { PlainTakes };
 
     fn put(&mut self, frame: &[u8]) -> Result<(), Refusal> {
-        let bytes = copied(frame)?;
-        self.queue.push_back(bytes);
+        let bytes: &FrameBytes = sized(frame)?;
+        self.queue.push_back(*bytes);
         Ok(())
     }
 
     fn next(&mut self, frame: &mut [u8]) -> Result<Arrival, Refusal> {
-        if frame.len() != FRAME_SIZE {
-            return Err(Refusal::BadSize);
-        }
-        match self.queue.pop_front() {
-            Some(oldest) => {
-                frame.copy_from_slice(&oldest);
-                Ok(Arrival::Frame)
-            }
-            None => Ok(Arrival::Nothing),
-        }
+        let frame = frame.as_mut_array().ok_or(Refusal::BadSize)?;
+        Ok(deliver(self.queue.pop_front(), frame))
     }
 }

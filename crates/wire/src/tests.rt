@@ -17,28 +17,16 @@ const CREDIT: FrameBytes =
     *b"\x00\x00\x00\x00\x00\x00\x00\x00\x00\x00\x00\x00\x00\x00\x00\x00\x00\x00\x00\x00\
     \x00\x00\x00\x00\x00\x00\x00\x00\x00\x00\x00\x00\x3c\xbc\x58\x97\x02\x00\x0a\x28";
 
+// What the caller's bytes are before a frame is asked for.
+const UNTOUCHED: FrameBytes = [0xee; FRAME_SIZE];
+
 // The next frame of a wire is the one given, or nothing where none is given.
 fn expect<W: Wire>(rt: &impl Abort, wire: &mut W, frame: Option<FrameBytes>) -> Result<(), Fail> {
-    let mut came = [0xeeu8; FRAME_SIZE];
-    match frame {
-        Some(frame) => {
-            assert_eq!(rt; wire.next(&mut came).ok(), Some(Arrival::Frame));
-            assert_eq!(rt; came, frame);
-            Ok(())
-        }
-        None => {
-            assert_eq!(rt; wire.next(&mut came).ok(), Some(Arrival::Nothing));
-            assert_eq!(rt; came, [0xeeu8; FRAME_SIZE]);
-            Ok(())
-        }
-    }
-}
-
-fn is_bad_size(why: Option<Refusal>) -> bool {
-    match why {
-        Some(Refusal::BadSize) => true,
-        _ => false,
-    }
+    let mut came = UNTOUCHED;
+    let arrival = frame.map_or(Arrival::Nothing, |_| Arrival::Frame);
+    assert_eq!(rt; wire.next(&mut came), Ok(arrival));
+    assert_eq!(rt; came, frame.unwrap_or(UNTOUCHED));
+    Ok(())
 }
 
 // The seventeenth is lost, and the others come back in order.
@@ -61,14 +49,14 @@ fn seventeen_on_lines(rt: HostRuntime) -> Result<(), Fail> {
 // Every flip of a good frame turns just that bit, and shows in the link check.
 #[test]
 fn each_flip_shows(rt: HostRuntime) -> Result<(), Fail> {
-    for n in 0..320u64 {
-        let fates = [Fate::Flip(n)];
+    for n in 0..320u16 {
+        let fates = [Fate::Flip(u64::from(n))];
         let mut area = [[0u8; FRAME_SIZE]];
         let mut wire = Fault::new(PlainWire::new(&mut area), &fates);
         assert!(rt; wire.put(&HEADER).is_ok());
         let mut bytes = HEADER;
-        bytes[n as usize / 8] ^= 1 << (n % 8);
-        assert_ne!(rt; syndrome(&bytes).ok(), Some(0));
+        bytes[usize::from(n / 8)] ^= 1 << (n % 8);
+        assert_ne!(rt; syndrome(&bytes), Ok(0));
         expect(&rt, &mut wire, Some(bytes))?;
     }
     Ok(())
@@ -81,7 +69,7 @@ fn no_places(rt: HostRuntime) -> Result<(), Fail> {
     assert!(rt; wire.put(&HEADER).is_ok());
     expect(&rt, &mut wire, None)?;
     let mut short = [0u8; 39];
-    assert!(rt; is_bad_size(wire.next(&mut short).err()));
+    assert_eq!(rt; wire.next(&mut short), Err(Refusal::BadSize));
     Ok(())
 }
 
@@ -99,7 +87,7 @@ fn fates_in_turn(rt: HostRuntime) -> Result<(), Fail> {
     assert!(rt; wire.put(&HEADER).is_ok());
     assert!(rt; wire.put(&CREDIT).is_ok());
     assert!(rt; wire.put(&CREDIT).is_ok());
-    assert!(rt; is_bad_size(wire.put(&[0]).err()));
+    assert_eq!(rt; wire.put(&[0]), Err(Refusal::BadSize));
     assert!(rt; wire.put(&CREDIT).is_ok());
     let mut struck = CREDIT;
     struck[1] = 0x20;

@@ -1,20 +1,11 @@
-use Rattle.std.proofs.Common.{◌≡◌, ℕ, ◌+◌, ◌*◌, ◌<◌, get_or, set, sym, refl, ap, ◌∙◌, subst, ap₂, arith, ltb-true}
+use Rattle.std.proofs.Common.{◌≡◌, ℕ, ◌+◌, ◌*◌, ◌<◌, get_or, set, sym, ap, ◌∙◌, subst, ap₂, arith, rules}
 use Rattle.std.proofs.lemmas.List.Edits.{fill_by_more}
 use Rattle.std.proofs.lemmas.List.FromFn.{fill_by_all}
-use Rattle.line.specs.Code.{decoded, is_word}
+use Rattle.line.specs.Code.{decoded}
 use Rattle.line.specs.Places.{place, group_at}
 use Rattle.line.specs.Groups.{number, group_bit, frame_of}
 use Rattle.line.proofs.Bytes.{byte}
-use Rattle.line.proofs.Passes.{all_get}
 use Rattle.line.proofs.groups.gather.Goals as goal
-
-pub code_of-requires : goal.code_of-requires
-code_of-requires c =
-    ltb-true _ 32 (all_get is_word c.args.groups.now c.groups_of-low.result.0 0 refl c.requires.words)
-
-pub code_of-requires-in-loop-b : goal.code_of-requires-in-loop-b
-code_of-requires-in-loop-b c =
-    ltb-true _ 32 (all_get is_word c.args.groups.now c.groups_of-low.result.1 0 refl c.requires.words)
 
 pub loop-b-preserved : goal.loop-b-preserved
 loop-b-preserved c =
@@ -33,11 +24,13 @@ loop-b-preserved c =
     let small-too = subst (λ (m : ℕ). m < 16) q c.code_of-in-loop-b.ensures.small in
     let e : x + 16 * y ≡ F b =
     ap₂ (λ (m n : ℕ). m + 16 * n) p q ∙ sym (byte w groups b (omega arith) small small-too) in
-    λ k h.
-    ap (λ (v : ℕ). get_or (set frame b v) k 0) e ∙ fill_by_more F frame b 0 (omega arith) c.loop-b.invariant k h
+    record {
+      size = search rules;
+      bytes = λ k h. ap (λ (v : ℕ). get_or (set frame b v) k 0) e ∙ fill_by_more F frame b 0 (omega arith) c.loop-b.invariant.bytes k h;
+    }
 
 pub returns : goal.returns
 unfolding frame_of
 returns c =
     fill_by_all (λ k. number 8 (λ j. group_bit c.args.groups.now (place c.args.width (8 * k + j)))) c.loop-b.frame 40 0
-    (c.loop-b.auto.frame ∙ c.requires.frame) (λ k h. c.loop-b.invariant k (omega arith))
+    c.loop-b.invariant.size (λ k h. c.loop-b.invariant.bytes k (omega arith))

@@ -23,13 +23,13 @@ pub loop-i-preserved : goal.loop-i-preserved
 loop-i-preserved c =
     let world = declared (setup_wire c.loop-i.setup) in
     let ask = ask_of c.in_ok-asked.asked in
-    let other = was_other (is_call ask) (outcome_in world ask) c.in-Some.outcome c.in-Some.ensures.answer in
-    one_more c.args.pieces.now c.loop-i.i _ _ _ _ _ _ ask c.in-Some.outcome (omega arith) c.in_ok-asked.ensures other.1
-    (c.in-Some.ensures.state ∙ ap (λ (b : Bool). cond b world (after_ask world ask)) other.0) c.in_ok-put_outcome-in-Some.ensures c.loop-i.invariant
+    let other = was_other (is_call ask) (outcome_in world ask) c.in-Some.answer c.in-Some.ensures.answer in
+    one_more c.args.pieces.now c.loop-i.i (c.loop-i.i + 1) _ _ _ _ _ _ ask c.in-Some.answer (omega arith) c.in_ok-asked.ensures other.1
+    (c.in-Some.ensures.state ∙ ap (λ (b : Bool). cond b world (after_ask world ask)) other.0) c.in_ok-put_answer-in-Some.ensures c.loop-i.invariant
 
 pub returns : goal.returns
 returns c =
     let items = c.args.pieces.now in
     let out = string_bytes c.loop-i.out in
-    ap (λ (l : List ℕ). out ++ l) (none_left items (length items) _ (omega arith) ∙ sym (none_left items c.loop-i.i _ (omega arith)))
+    ap (λ (l : List ℕ). out ++ l) (none_left items (length items) _ _ (omega arith) ∙ sym (none_left items c.loop-i.i _ _ (omega arith)))
     ∙ c.loop-i.invariant

@@ -1,7 +1,7 @@
 -- the groups that were pushed carry the frame
-use Rattle.std.proofs.Common.{◌≡◌, true, false, length, refl, rules}
+use Rattle.std.proofs.Common.{◌≡◌, true, false, length, refl, ap, rules}
 use Rattle.wire.specs.declared.lines.LineWire.{LineWire}
-use Rattle.wire.proofs.Queues.{line_put, line_own}
+use Rattle.wire.proofs.Queues.{line_pushed}
 use Rattle.wire.proofs.lines.LineWireWire.put.Goals as goal
 
 pub returns-then-push_back : goal.returns-then-push_back
@@ -10,14 +10,11 @@ returns-then-push_back c =
     let before : LineWire = c.args.self.now in
     let after : LineWire = record { counts = c.code-counts.result; queue = c.push_back.new.self } in
     let whole : length frame ≡ 40 = search rules in
-    let same : c.in_ok-bytes.bytes ≡ frame = search rules in
+    let same : c.in_ok-bytes.bytes.now ≡ frame = search rules in
     let coded = rw same at c.code-counts.ensures in
     let told = c.if-push_back.ensures in
-    record {
-      answer = search rules;
-      list = line_put before after frame c.code-counts.new.groups c.code-counts.result whole coded true told.test told.items refl;
-      own = line_own before after frame c.code-counts.new.groups c.code-counts.result whole coded true told.test told.items refl told.same;
-    }
+    let pushed = line_pushed before after frame c.code-counts.new.groups c.code-counts.result whole coded true told.test (ap (λ q. q.items) told.queue) refl (ap (λ q. q.room) told.queue) in
+    record { answer = search rules; list = pushed.0; own = pushed.1 }
 
 pub returns-else-push_back : goal.returns-else-push_back
 returns-else-push_back c =
@@ -25,11 +22,8 @@ returns-else-push_back c =
     let before : LineWire = c.args.self.now in
     let after : LineWire = record { counts = c.args.self.now.counts; queue = c.push_back.new.self } in
     let whole : length frame ≡ 40 = search rules in
-    let same : c.in_ok-bytes.bytes ≡ frame = search rules in
+    let same : c.in_ok-bytes.bytes.now ≡ frame = search rules in
     let coded = rw same at c.code-counts.ensures in
     let told = c.if-push_back.ensures in
-    record {
-      answer = search rules;
-      list = line_put before after frame c.code-counts.new.groups c.code-counts.result whole coded false told.test told.items refl;
-      own = line_own before after frame c.code-counts.new.groups c.code-counts.result whole coded false told.test told.items refl told.same;
-    }
+    let pushed = line_pushed before after frame c.code-counts.new.groups c.code-counts.result whole coded false told.test (ap (λ q. q.items) told.queue) refl (ap (λ q. q.room) told.queue) in
+    record { answer = search rules; list = pushed.0; own = pushed.1 }

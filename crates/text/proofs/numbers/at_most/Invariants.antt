@@ -1,7 +1,0 @@
-use Rattle.std.proofs.Common.{◌≡◌, ◌≤◌, drop}
-use Rattle.text.specs.Numbers.{at_most, read_on, number_of}
-use Rattle.text.proofs.numbers.at_most.Given as goal
-
--- the number so far, with the digits that are to come, gives the word's
-abbrev pub invariant-loop-c : goal.invariant-loop-c
-invariant-loop-c l = (l.n ≤ l.limit) × (at_most l.limit (read_on l.n (drop l.c-index l.word)) ≡ number_of l.limit l.word)
