@@ -75,8 +75,14 @@ low_bits (suc n) m =
     ap₂ (λ (a : Bool) (l : ℕ). a ∷ bits n l) e f ∙ ap (λ (l : List Bool). odd m ∷ l) (low_bits n (m / 2))
 
 -- a check of 16 bits goes in as two bytes, the low one first
-pub two_bytes : (g r check : ℕ) → check < 2 ^ 16 → residue g r check ≡ through g r ((check % 256) ∷ (check / 256 % 256) ∷ [])
-unfolding through byte_in residue
-two_bytes g r check h =
-    let e : check / 2 / 2 / 2 / 2 / 2 / 2 / 2 / 2 ≡ check / 256 % 256 = omega arith in
-    sym (ap₂ (λ (low : List Bool) (k : ℕ). feed g (feed g r low) (bits 8 k)) (low_bits 8 check) (sym e))
+pub two_bytes : (g r check : ℕ) → byte_in g (byte_in g r (check % 256)) (check / 256) ≡ residue g r check
+unfolding byte_in residue
+two_bytes g r check =
+    let e : check / 256 ≡ check / 2 / 2 / 2 / 2 / 2 / 2 / 2 / 2 = omega arith in
+    ap₂ (λ (low : List Bool) (k : ℕ). feed g (feed g r low) (bits 8 k)) (low_bits 8 check) e
+
+-- the same as a run over those two bytes
+pub byte_by_byte : (g r check : ℕ) → residue g r check ≡ through g r ((check % 256) ∷ (check / 256 % 256) ∷ [])
+unfolding through byte_in
+byte_by_byte g r check =
+    sym (ap (λ (high : List Bool). feed g (byte_in g r (check % 256)) high) (low_bits 8 (check / 256)) ∙ two_bytes g r check)

@@ -31,7 +31,7 @@ pub fn after_bytes<C: Check>(register: u16, bytes: &[u8]) -> u16
 }
 
 // What is left in the register after a received check, least significant bit first.
-#[tactic(auto, using(crate::proofs::Byte::two_bytes, crate::proofs::Burst::residue_tells, crate::proofs::Flips::one_bit_shows))]
+#[tactic(auto, using(crate::proofs::Byte::byte_by_byte, crate::proofs::Burst::residue_tells, crate::proofs::Flips::one_bit_shows))]
 pub fn left_over<C: Check>(register: u16, check: u16) -> u16
     ensures value { result ≡ residue C.Check.GENERATOR register check }
     ensures tells { ResidueTells C.Check.GENERATOR }

@@ -5,7 +5,7 @@ use Rattle.std.proofs.lemmas.List.{map-append}
 use Rattle.crc.specs.Laws.{Bytes}
 use Rattle.crc.specs.Serial.{byte_in, through, residue}
 use Rattle.crc.proofs.Burst.{keeps_its_width, residue_tells, shows_a_byte}
-use Rattle.crc.proofs.Byte.{two_bytes}
+use Rattle.crc.proofs.Byte.{byte_by_byte}
 use Rattle.crc.proofs.Flips.{turned, turned_lt}
 use Rattle.crc.proofs.Table.{at_below}
 use Rattle.frame.specs.Checks.{order, covered, link_check, received, syndrome_of, sealed, GoodIsZero, StompedIs06A9, FrameBitShows, SealedIsGood}
@@ -146,7 +146,7 @@ register_after xs bytes =
     let b = bytes 32 in
     let hi : received xs / 256 % 256 ≡ get_or xs 32 0 = omega arith in
     let R = through 0x8408 0xFFFF (pick order xs) in
-    two_bytes 0x8408 R (received xs) (received_lt xs bytes)
+    byte_by_byte 0x8408 R (received xs)
     ∙ ap₂ (λ (l h : ℕ). through 0x8408 R (l ∷ h ∷ [])) lo hi
     ∙ sym (through_append (pick order xs) (get_or xs 33 0 ∷ get_or xs 32 0 ∷ []) 0xFFFF)
     ∙ ap (through 0x8408 0xFFFF) (sym (map-append (λ i. get_or xs i 0) order (33 ∷ 32 ∷ [])))

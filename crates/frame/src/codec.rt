@@ -76,11 +76,11 @@ impl Fields {
         ensures back { FieldsComeBack }
         ensures figures { ControlFigures }
     {
-        let content: &Content = sized(content)?;
-        let frame: &mut FrameBytes = frame.as_mut_array().ok_or(Refusal::BadSize)?;
         if self.cr > MOST_CR {
             return Err(Refusal::BadSize);
         }
+        let content: &Content = sized(content)?;
+        let frame: &mut FrameBytes = frame.as_mut_array().ok_or(Refusal::BadSize)?;
         let (data, trailer) = frame.split_at_mut(DATA_SIZE);
         data.copy_from_slice(content);
         trailer.copy_from_slice(&self.trailer());
