@@ -1,5 +1,5 @@
 -- What of a list a ring holds, oldest first: the elements at some places that follow each other round the end.
-use Rattle.std.specs.Prelude.{ℕ, ◌+◌, ◌-◌, ◌≤◌, cond, List, ◌++◌, take, drop, nat_lt}
+use Rattle.std.specs.Prelude.{ℕ, ◌+◌, ◌-◌, min, cond, List, ◌++◌, length, take, drop, nat_lt}
 
 -- a list turned so that its element i comes first
 abbrev pub turned : {X : Type 0} → List X → ℕ → List X
@@ -9,13 +9,14 @@ turned xs i = drop i xs ++ take i xs
 abbrev pub held : {X : Type 0} → List X → ℕ → ℕ → ℕ → List X
 held xs n first len = take len (turned (take n xs) first)
 
+-- where the oldest lies, of n places: at 0 where first is none of them
+unfoldable pub start_of : ℕ → ℕ → ℕ
+start_of first n = cond (nat_lt first n) first 0
+
 -- the place that is i after first, of n places, round the end
 unfoldable pub place_of : ℕ → ℕ → ℕ → ℕ
 place_of n first i = cond (nat_lt i (n - first)) (first + i) (i - (n - first))
 
--- The numbers of a ring over a slice of some length make sense: the slice has its places, the oldest lies at one of
--- them (at 0 where there are none), and it holds no more than these.
-pub record InRange (slots first len size : ℕ) : Type 0 where
-  pub fits : size ≤ slots
-  pub starts : first ≤ size - 1
-  pub bounded : len ≤ size
+-- what the numbers of a ring pick from a list: one that is too large is read as the largest that makes sense
+unfoldable pub window : {X : Type 0} → List X → ℕ → ℕ → ℕ → List X
+window xs size first len = held xs (min size (length xs)) (start_of first (min size (length xs))) (min len (min size (length xs)))

@@ -1,13 +1,14 @@
 // A queue over a lent slice.
 #![tactic(auto)]
 
-ghost use Rattle.std.specs.Prelude.{length};
-ghost use Rattle.ring.specs.Held.{InRange};
-
 mod queue;
 
-// A queue of the elements of a lent slice, in its first `size` places. The oldest lies at `first`, and the queue goes
+// A queue of the elements of a lent slice, at most `size` of them. The oldest lies at `first`, and the queue goes
 // on from the slice's start where it comes to the end of what it uses.
+//
+// Every ring means a list, whatever its numbers: one that is too large is read as the largest that makes sense,
+// both here and in what is stated of it. So no call asks anything of its caller. No ghost field keeps the numbers in
+// range, since with one beside the lent slice no function of a caller's could take a ring by value and change it.
 // Its fields stand open to clauses, since a model would hide from the lender what its slice holds afterwards.
 #[derive(Drop)]
 pub struct Ring<'a, T> {
@@ -15,5 +16,7 @@ pub struct Ring<'a, T> {
     first: usize,
     len: usize,
     size: usize,
-    ghost in_range: { InRange (length slots.now) first len size },
 }
+
+#[cfg(test)]
+mod tests;

@@ -2,24 +2,33 @@
 ghost use Rattle.std.specs.Prelude.{◌≡◌, ◌-◌, ◌≤◌, min, not, [], ◌∷◌, ◌++◌, length, drop, if◌then◌else◌, ◌==◌, nat_lt};
 ghost use Rattle.std.specs.Option.{option_map};
 ghost use Rattle.std.specs.List.{slice_get};
-ghost use Rattle.ring.specs.Held.{place_of};
+ghost use Rattle.ring.specs.Held.{start_of, place_of};
 ghost use Rattle.ring.specs.Items.{queue_of, ring_items, ring_cap};
 
 use super::Ring;
 
-#[tactic(auto, unfolding(crate::specs::Items::queue_of))]
+// The index `i` after `first`, going on from 0 at `size`.
+#[tactic(auto, unfolding(crate::specs::Held::place_of))]
+fn place(size: usize, first: usize, i: usize) -> usize
+    requires { (first ≤ size - 1) × (i ≤ size) }
+    ensures value { result ≡ place_of size first i }
+    ensures bound { result ≤ size - 1 }
+{
+    let room = size - first;
+    if i < room { first + i } else { i - room }
+}
+
 impl<'a, T: Copy> Ring<'a, T> {
     // An empty ring over the first elements of `slots`: it uses at most as many as it is told.
     pub fn new(slots: &'a mut [T], at_most: usize) -> Ring<'a, T>
         ensures queue { queue_of result ≡ record { items = []; room = min at_most (length slots.old); past = drop at_most slots.old; loan = slots.entry.ghost_name } }
         ensures area { result.slots.now ≡ slots.old }
     {
-        let size = at_most.min(slots.len());
         Ring {
             slots,
             first: 0,
             len: 0,
-            size,
+            size: at_most,
         }
     }
 
@@ -28,7 +37,7 @@ impl<'a, T: Copy> Ring<'a, T> {
         ensures value { result ≡ ring_cap self.now }
         ensures within { result ≤ length self.now.slots.now }
     {
-        self.size
+        self.size.min(self.slots.len())
     }
 
     // How many it holds.
@@ -36,7 +45,7 @@ impl<'a, T: Copy> Ring<'a, T> {
         ensures value { result ≡ length (ring_items self.now) }
         ensures bound { result ≤ ring_cap self.now }
     {
-        self.len
+        self.len.min(self.capacity())
     }
 
     // Whether it holds nothing.
@@ -53,15 +62,16 @@ impl<'a, T: Copy> Ring<'a, T> {
         self.len() >= self.capacity()
     }
 
-    // The index `i` after the oldest, going on from 0 at the end of what is used.
-    #[tactic(auto, unfolding(crate::specs::Held::place_of))]
-    fn place(&self, i: usize) -> usize
-        requires { i ≤ self.now.size }
-        ensures value { result ≡ place_of self.now.size self.now.first i }
-        ensures bound { result ≤ self.now.size - 1 }
+    // Where the oldest lies.
+    fn start(&self) -> usize
+        ensures value { result ≡ start_of self.now.first (ring_cap self.now) }
+        ensures bound { result ≤ ring_cap self.now - 1 }
     {
-        let room = self.size - self.first;
-        if i < room { self.first + i } else { i - room }
+        if self.first < self.capacity() {
+            self.first
+        } else {
+            0
+        }
     }
 
     // The element `i` after the oldest, to look at.
@@ -69,9 +79,10 @@ impl<'a, T: Copy> Ring<'a, T> {
         ensures { option_map (λ x. x.now) result ≡ slice_get (ring_items self.now) i }
     {
         // An if: what `then` would lend from a closure is not known to be the element at `i`.
-        if i < self.len {
+        if i < self.len() {
+            let p = place(self.capacity(), self.start(), i);
             let slots: &[T] = &*self.slots;
-            Some(&slots[self.place(i)])
+            Some(&slots[p])
         } else {
             None
         }
@@ -90,12 +101,14 @@ impl<'a, T: Copy> Ring<'a, T> {
         ensures test { result ≡ nat_lt (length (ring_items self.old)) (ring_cap self.old) }
         ensures queue { queue_of self.new ≡ record (queue_of self.old) { items = if result then ring_items self.old ++ x ∷ [] else ring_items self.old } }
     {
-        if self.len < self.size {
-            // Asked for first, since the slots are lent to be written.
-            let len = self.len;
-            let at = self.place(len);
-            self.slots[at] = x;
-            self.len += 1;
+        let size = self.capacity();
+        let len = self.len();
+        if len < size {
+            let first = self.start();
+            let p = place(size, first, len);
+            self.slots[p] = x;
+            self.first = first;
+            self.len = len + 1;
             true
         } else {
             false
@@ -106,9 +119,10 @@ impl<'a, T: Copy> Ring<'a, T> {
     pub fn drop_front(&mut self, n: usize)
         ensures { queue_of self.new ≡ record (queue_of self.old) { items = drop n (ring_items self.old) } }
     {
-        let k = n.min(self.len);
-        self.first = self.place(k);
-        self.len -= k;
+        let len = self.len();
+        let k = n.min(len);
+        self.first = place(self.capacity(), self.start(), k);
+        self.len = len - k;
     }
 
     // Takes the oldest out.

@@ -1,12 +1,19 @@
 -- the oldest moves on round the end, by as many as are dropped
-use Rattle.std.proofs.Common.{ap, drop, arith}
-use Rattle.ring.specs.Items.{queue_of}
-use Rattle.ring.proofs.Turns.{held_drop}
+use Rattle.std.proofs.Common.{◌≡◌, min, drop, length, ap, arith}
+use Rattle.ring.specs.Held.{place_of}
+use Rattle.ring.specs.Items.{queue_of, ring_cap}
+use Rattle.ring.proofs.Turns.{ring_drop}
 use Rattle.ring.proofs.Ring.drop_front.Goals as goal
 
 pub returns : goal.returns
 unfolding queue_of
 returns g c =
     let r = c.args.self.now in
-    let left = held_drop r.slots.now r.size r.first r.len r.in_range c.args.n c.min-k.result c.place-self.result (omega arith) c.place-self.ensures.value in
-    ap (λ l. record { items = l; room = r.size; past = drop r.size r.slots.now; loan = r.slots.ghost_name }) left
+    let first = c.start.result in
+    let len = c.len-len.result in
+    let k = c.min-k.result in
+    let p = c.place-self.result in
+    let fewer : k ≡ min c.args.n len = omega arith in
+    let at : p ≡ place_of (ring_cap r) first k = cc in
+    ap (λ l. record { items = l; room = min r.size (length r.slots.now); past = drop (min r.size (length r.slots.now)) r.slots.now; loan = r.slots.ghost_name })
+    (ring_drop r first len c.start.ensures.value c.len-len.ensures.value c.args.n k p fewer at)

@@ -1,25 +1,21 @@
 -- what lies at the place is what the list has at i
-use Rattle.std.proofs.Common.{Some, sym, ap, ◌∙◌, arith}
+use Rattle.std.proofs.Common.{◌≡◌, Some, sym, ap, ◌∙◌, arith}
 use Rattle.std.proofs.lemmas.List.{get_or_read}
 use Rattle.std.proofs.lemmas.Option.{slice_get-get_or, slice_get_past}
-use Rattle.ring.specs.Held.{held}
-use Rattle.ring.specs.Items.{queue_of}
-use Rattle.ring.proofs.Turns.{held_at, length_held}
+use Rattle.ring.specs.Held.{place_of, start_of}
+use Rattle.ring.specs.Items.{ring_items, ring_cap}
+use Rattle.ring.proofs.Turns.{ring_at}
 use Rattle.ring.proofs.Ring.get_ref.Goals as goal
 
-pub returns-then-i-self : goal.returns-then-i-self
-unfolding queue_of
-returns-then-i-self g c =
+pub returns-then-i-len : goal.returns-then-i-len
+returns-then-i-len g c =
     let r = c.args.self.now in
-    let x = c.index-slots-place.result in
-    let bound = length_held r.slots.now r.size r.first r.len r.in_range in
-    let at = held_at r.slots.now r.size r.first r.len r.in_range c.args.i x c.if-i-self.true in
-    ap Some (get_or_read r.slots.now c.place.result x (omega arith) c.index-slots-place.is x ∙ rw c.place.ensures.value (sym at))
-    ∙ sym (slice_get-get_or (held r.slots.now r.size r.first r.len) c.args.i x (omega arith))
+    let x = c.index-slots-p.result in
+    let i = c.args.i in
+    let p = c.place-p.result in
+    let at : p ≡ place_of (ring_cap r) (start_of r.first (ring_cap r)) i = cc in
+    ap Some (get_or_read r.slots.now p x (omega arith) c.index-slots-p.is x ∙ ring_at r i p x (omega arith) at)
+    ∙ sym (slice_get-get_or (ring_items r) i x (omega arith))
 
-pub returns-else-i-self : goal.returns-else-i-self
-unfolding queue_of
-returns-else-i-self g c =
-    let r = c.args.self.now in
-    let bound = length_held r.slots.now r.size r.first r.len r.in_range in
-    sym (slice_get_past (held r.slots.now r.size r.first r.len) c.args.i (omega arith))
+pub returns-else-i-len : goal.returns-else-i-len
+returns-else-i-len g c = sym (slice_get_past (ring_items c.args.self.now) c.args.i (omega arith))
