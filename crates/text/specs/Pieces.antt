@@ -1,6 +1,6 @@
 -- The lines of a sheet and the words of a line: the pieces of a text between bytes of a kind.
-use Rattle.std.specs.Prelude.{◌≡◌, ℕ, Bool, true, false, not, ◌||◌, List, [], ◌∷◌, filter, ◌==◌}
-use Rattle.std.specs.List.{slice_split, join_with_byte, flat_map, AllByRecursion}
+use Rattle.std.specs.Prelude.{◌≡◌, ℕ, Bool, true, false, cond, not, ◌||◌, List, [], ◌∷◌, ◌++◌, filter, ◌==◌}
+use Rattle.std.specs.List.{join_with_byte, flat_map, AllByRecursion}
 
 -- a line feed
 abbrev pub ends_line : ℕ → Bool
@@ -10,17 +10,22 @@ ends_line b = b == 10
 abbrev pub separates : ℕ → Bool
 separates b = b == 32 || (b == 9 || b == 13)
 
+-- the pieces of bs between the bytes that pass the test, where `piece` was read of the first before bs
+abbrev pub pieces_after : (ℕ → Bool) → List ℕ → List ℕ → List (List ℕ)
+pieces_after test piece [] = piece ∷ []
+pieces_after test piece (b ∷ bs) = cond (test b) (piece ∷ pieces_after test [] bs) (pieces_after test (piece ++ b ∷ []) bs)
+
 abbrev pub some : List ℕ → Bool
 some [] = false
 some (b ∷ bs) = true
 
 -- k line feeds give k + 1 lines
 unfoldable pub lines_of : List ℕ → List (List ℕ)
-lines_of sheet = slice_split ends_line sheet
+lines_of sheet = pieces_after ends_line [] sheet
 
 -- the pieces that are not empty
 unfoldable pub words_of : List ℕ → List (List ℕ)
-words_of line = filter some (slice_split separates line)
+words_of line = filter some (pieces_after separates [] line)
 
 -- no byte passes the test
 abbrev pub FreeOf : (ℕ → Bool) → List ℕ → Type 0

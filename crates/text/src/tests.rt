@@ -1,7 +1,30 @@
 // What the sheet's rules say at their borders.
 use crate::writing::{Hex, Hex4, HexDigit};
 use crate::{bytes, count, number, signed, words};
+use std::fmt;
+use std::fmt::Write;
 use std::test::Fail;
+
+// A writer that counts how often it is called.
+#[derive(Drop)]
+struct Calls {
+    count: u32,
+}
+
+impl fmt::Write for Calls {
+    fn write_str(&mut self, _text: &str) -> fmt::Result {
+        self.count = self.count.saturating_add(1);
+        Ok(())
+    }
+}
+
+// A writer with little room keeps all of a number or nothing.
+#[test]
+fn in_one_piece(rt: HostRuntime) {
+    let mut calls = Calls { count: 0 };
+    assert!(rt; write!(&mut calls, "{}", Hex4(0x5a)).is_ok());
+    assert_eq!(rt; calls.count, 1);
+}
 
 #[test]
 fn numbers(rt: HostRuntime) {

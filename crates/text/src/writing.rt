@@ -65,7 +65,7 @@ impl fmt::Display for Hex4 {
 
     fn fmt<W: fmt::Write>(&self, f: &mut fmt::Formatter<W>) -> fmt::Result {
         let n = self.0;
-        write!(f, "{n:04x}")
+        write!(f, "{}", Hex(&n.to_be_bytes()))
     }
 }
 
