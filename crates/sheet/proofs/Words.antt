@@ -1,5 +1,5 @@
 -- The words of a line: their bytes, and how many they are.
-use Rattle.std.proofs.Common.{◌≡◌, ℕ, ◌<◌, ◌≤◌, Bool, true, false, List, [], ◌∷◌, map, length, get_or, slice_index_or, Bor, refl, sym, ap, subst, Err, arith, rules, codes, ◌-◌, ◌∙◌, take, drop}
+use Rattle.std.proofs.Common.{◌≡◌, ℕ, ◌<◌, ◌≤◌, Bool, true, false, List, [], ◌∷◌, map, length, get_or, slice_index_or, Bor, refl, sym, ap, subst, None, Err, arith, rules, codes, ◌-◌, ◌∙◌, take, drop}
 use Rattle.std.proofs.lemmas.List.{get_or-map, length-map, drop_more}
 use Rattle.std.proofs.lemmas.Slice.{between_to_end}
 use Rattle.std.proofs.lemmas.Slice.Eq.{bytes_eq-Decides}
@@ -8,7 +8,7 @@ use Rattle.std.proofs.lemmas.Str.Ascii.{IsAscii-from_all}
 use Rattle.std.specs.Str.{IsUtf8, IsAscii}
 use Rattle.sheet.specs.declared.trouble.Trouble.TheVariants.{NotUnderstood}
 use Rattle.sheet.specs.Asks.{by_first}
-use Rattle.sheet.specs.Lines.{says}
+use Rattle.sheet.specs.Lines.{says, width_in}
 
 pub word_is :
     (ws : List (Bor (List ℕ))) (i : ℕ) → i < length ws
@@ -54,5 +54,33 @@ no_first w ws n =
     let fates = not_text w (codes "fates") (IsAscii-from_all (codes "fates") (search rules)) n in
     let put = not_text w (codes "w") (IsAscii-from_all (codes "w") (search rules)) n in
     rw (frame, fields, code, decode, lines, unlines, wire, fates, put)
+
+-- nor is what is longer than all of them
+longer : (b : Bool) (w t : List ℕ) → (b ≡ true → w ≡ t) → length t < length w → b ≡ false
+longer true w t d h = let e : length w ≡ length t = ap length (d refl) in absurd (omega arith)
+longer false w t d h = refl
+
+pub not_longer : (w t : List ℕ) → length t < length w → says w t ≡ false
+unfolding says
+not_longer w t h = longer _ w t (bytes_eq-Decides w t).0 h
+
+pub no_long_first : (w : List ℕ) (ws : List (List ℕ)) → 7 < length w → by_first w ws ≡ Err NotUnderstood
+no_long_first w ws h =
+    let frame = not_longer w (codes "frame") (omega arith) in
+    let fields = not_longer w (codes "fields") (omega arith) in
+    let code = not_longer w (codes "code") (omega arith) in
+    let decode = not_longer w (codes "decode") (omega arith) in
+    let lines = not_longer w (codes "lines") (omega arith) in
+    let unlines = not_longer w (codes "unlines") (omega arith) in
+    let wire = not_longer w (codes "wire") (omega arith) in
+    let fates = not_longer w (codes "fates") (omega arith) in
+    let put = not_longer w (codes "w") (omega arith) in
+    rw (frame, fields, code, decode, lines, unlines, wire, fates, put)
+
+pub no_long_width : (w : List ℕ) → 6 < length w → width_in w ≡ None
+no_long_width w h =
+    let wide = not_longer w (codes "wide") (omega arith) in
+    let narrow = not_longer w (codes "narrow") (omega arith) in
+    rw (wide, narrow)
 
 pub ruleset texts = (not_text, bytes_eq-Decides)

@@ -111,10 +111,14 @@ fn shows(found: Result<Outcome, Trouble>) -> Result<Request, Trouble>
 }
 
 // What a line asks for, by its first word.
-#[tactic(auto, using(crate::proofs::Words::texts), unfolding(crate::specs::Lines::says))]
+#[tactic(auto, using(crate::proofs::Words::texts, crate::proofs::Words::no_long_first), unfolding(crate::specs::Lines::says))]
 fn asked_by(heap: Global, first: &[u8], words: &[&[u8]]) -> Result<Request, Trouble>
     ensures { Gives (ask_of result) (by_first first.now (map (λ x. x.now) words.now)) }
 {
+    // None of the words below is longer, and a longer one is not looked through.
+    if first.len() > 7 {
+        return Err(Trouble::NotUnderstood);
+    }
     // As text, since of byte strings each byte would be a case of its own to prove.
     let Ok(first) = std::str::from_utf8(first) else {
         return Err(Trouble::NotUnderstood);

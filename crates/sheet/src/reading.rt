@@ -14,10 +14,14 @@ pub(crate) fn is(word: &[u8], text: &str) -> bool
 }
 
 // The width of a system of lines, by its word.
-#[tactic(auto, using(crate::proofs::Words::texts), unfolding(crate::specs::Lines::says))]
+#[tactic(auto, using(crate::proofs::Words::texts, crate::proofs::Words::no_long_width), unfolding(crate::specs::Lines::says))]
 pub(crate) fn width(word: &[u8]) -> Option<Width>
     ensures { result ≡ width_in word.now }
 {
+    // Neither word is longer, and a longer one is not looked through.
+    if word.len() > 6 {
+        return None;
+    }
     match std::str::from_utf8(word).ok()? {
         "wide" => Some(Width::Wide),
         "narrow" => Some(Width::Narrow),
