@@ -49,6 +49,8 @@ fn bytes_at<const N: usize>(content: &Content, at: usize) -> [u8; N]
 
 // What a Header says, where a Message on the channel can begin with it: it has LLC/SNAP in its place, and an M_len that a
 // payload on the channel can have.
+// Not inlined, since its addresses would then go byte by byte through what comes of every micropacket.
+#[inline(never)]
 fn heading_in(channel: Channel, content: &Content) -> Result<Heading, Refusal>
     ensures { result ≡ or_else (heading_refusal channel content.now) (heading_in content.now) }
 {
